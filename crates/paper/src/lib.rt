@@ -1,0 +1,32 @@
+// The types that the definitions, the code over them and its readers share.
+
+// What a step answers; `specs/Answers.antt` gives the number and the two values for each case.
+pub enum Answer {
+    // n
+    Opened(u32),
+    // its number
+    Rule(u32),
+    // its number, its variable
+    Wish(u32, u32),
+    // its number, its literals
+    Derived(u32, u32),
+    // the bound, the weight that every member lost
+    Core(u32, u32),
+    // the cost and the bound, which are equal
+    Best(u32, u32),
+    // the cost and the bound, which is less
+    Counted(u32, u32),
+    // the lowest number of a rule that the arrangement breaks
+    Broken(u32),
+    // any other refusal, by its number
+    Refused(u32),
+}
+
+// What a hint says under an assignment. `AlreadyTrue` goes before `StillOpen`: one true literal settles it.
+pub enum Reading {
+    AllFalse,
+    // all but this literal are false
+    Forces(i32),
+    AlreadyTrue,
+    StillOpen,
+}
