@@ -11,7 +11,8 @@ use lib.IntN.{ℤ, pos, negsuc}
 use lib.ListN.{length, getD, length-append, length-map, List·getD-append}
 use lib.Seq.{getD-append-seam}
 use borrow.Author.Tests.{ltb-true, ltb-false, leb-true, leb-false, eqb-true, lt-ltb, not-true}
-use Rattle.paper.specs.Sizes.{Width, firstCounter, counterStart, numbersEnd}
+use Rattle.paper.specs.Sizes.{firstCounter, counterStart, numbersEnd}
+use Rattle.paper.specs.declared.Width.{Width}
 use Rattle.paper.specs.Clauses.{Clause, Truth, variable, positive, clauseTrue, every, hasVariable, variableTwice, only, from}
 use Rattle.paper.specs.Counters.{treeOf}
 use Rattle.paper.specs.Session.{Counter, Sheet, Work, noCounter, spread, upperOutputs, counterGives, remaining}
@@ -279,6 +280,7 @@ sound-core S W d e s =
       wishForm = s .wishForm;
       light = s .light;
       derivedForm = s .derivedForm;
+      derivedBelow = s .derivedBelow;
       fewCounters = new-few (members W d) w (S .width .counters) (W .counters) (s .fewCounters) (taken .room);
       ordered = new-ordered (members W d) w (S .width) (W .counters) (s .ordered) (omega arith) above under;
       derivedTrue = λ t f m. s .derivedTrue t (faithful-before S W (members W d) w t f) m;

@@ -13,7 +13,7 @@ use Rattle.paper.specs.Clauses.{Truth, clauseTrue, every, only, pick}
 use Rattle.paper.specs.Session.{Wish, Sheet, Work, Session, fresh, noWish, wishGives, counterGives, given, remaining}
 use Rattle.paper.specs.Truth.{meets, cost, costOf, truth, weightOn, allWeights}
 use Rattle.paper.specs.Steps.{Step, opening, rule, wish, derive, core, judge, opened, metBefore, accepted, effect, next}
-use Rattle.paper.specs.Runs.{Entry, Runs}
+use Rattle.paper.specs.Runs.{Entry, Runs, Reached}
 use Rattle.paper.specs.Promises.{CountersTrue, DerivedTrue, EmptyClause, NoCheaper, CostLaw, TotalLaw}
 use Rattle.paper.specs.declared.Answer.the-variants.{Best, Counted, Broken, Refused}
 use Rattle.paper.proofs.Lists.{and-split}
@@ -43,8 +43,8 @@ sound-runs s [] s′ h r = rw r at h
 sound-runs s (e ∷ es) s′ h r =
     sound-runs (next s (e .step)) es s′ (rw (next-accepted s (e .step) (r .0)) (sound-step s (e .step) (r .0) h)) (r .2)
 
-pub sound-run : (es : List Entry) (s : Session) → Runs fresh es s → SoundSession s
-sound-run es s r = sound-runs fresh es s (sound-blank 0 narrow-fits (omega arith)) r
+pub reached-sound : (s : Session) → Reached s → SoundSession s
+reached-sound s r = sound-runs fresh (r .0) s (sound-blank 0 narrow-fits (omega arith)) (r .1)
 
 -- ── Weights on the wishes' variables ──
 
@@ -127,28 +127,28 @@ module _ (S : Sheet) (W : Work) (s : Sound S W) where
 -- ── The promises ──
 
 pub counters-true : CountersTrue
-counters-true es s r a c i e =
-    let h = sound-run es s r in
+counters-true s r a c i e =
+    let h = reached-sound s r in
     counter-true (s .sheet) (s .work) (truth (s .sheet) (s .work) a) (faithful (s .sheet) (s .work) h a) (h .ordered) c i e
 
 pub derived-true : DerivedTrue
-derived-true es s r a m = derived-holds (s .sheet) (s .work) (sound-run es s r) a m
+derived-true s r a m = derived-holds (s .sheet) (s .work) (reached-sound s r) a m
 
 pub empty-clause : EmptyClause
-empty-clause es s r hints e a = go (meets (s .sheet) a) refl
+empty-clause s r hints e a = go (meets (s .sheet) a) refl
   where
     go : (b : Bool) → meets (s .sheet) a ≡ b → meets (s .sheet) a ≡ false
     go false u = u
     go true u =
-        let h = sound-run es s r in
+        let h = reached-sound s r in
         absurd (false≢true (derive-true (s .sheet) (s .work) (truth (s .sheet) (s .work) a) (faithful (s .sheet) (s .work) h a) (h .ordered)
         (meets-truth (s .sheet) (s .work) h a u) (derived-holds (s .sheet) (s .work) h a u) [] hints e))
 
 pub cost-law : CostLaw
-cost-law es s r a m = cost-is (s .sheet) (s .work) (sound-run es s r) a m
+cost-law s r a m = cost-is (s .sheet) (s .work) (reached-sound s r) a m
 
 pub total-law : TotalLaw
-total-law es s r = let h = sound-run es s r in (total-is (s .sheet) (s .work) h, bound-small (s .sheet) (s .work) h)
+total-law s r = let h = reached-sound s r in (total-is (s .sheet) (s .work) h, bound-small (s .sheet) (s .work) h)
 
 -- What a judging that answers "best" says.
 judged-best : (o b x : Bool) (i k l k′ l′ : ℕ)
@@ -160,8 +160,8 @@ judged-best true true false i k l k′ l′ e = let z : _≡_ {A = ℕ} 0 1 = cc
 judged-best true true true i k l k′ l′ e = (refl, refl, cc, cc)
 
 pub no-cheaper : NoCheaper
-no-cheaper es s r a k bound e =
-    let h = sound-run es s r in
+no-cheaper s r a k bound e =
+    let h = reached-sound s r in
     let j = judged-best (opened s) (meets (s .sheet) a) (eqb (cost (s .sheet) a) (s .work .bound)) (metBefore a (s .sheet .rules))
     (cost (s .sheet) a) (s .work .bound) k bound e in
     let q : cost (s .sheet) a ≡ s .work .bound = eqb-true _ _ (j .1) in

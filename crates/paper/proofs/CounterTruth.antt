@@ -46,7 +46,7 @@ suc-previous : (n : ℕ) → 0 < n → suc (previous n) ≡ n
 suc-previous zero h = omega arith
 suc-previous (suc n) h = refl
 
-not-both-zero : (a b q n : ℕ) → a * q + b ≡ suc n → 0 < a + b
+pub not-both-zero : (a b q n : ℕ) → a * q + b ≡ suc n → 0 < a + b
 not-both-zero zero b q n e = omega arith
 not-both-zero (suc a) b q n e = omega arith
 

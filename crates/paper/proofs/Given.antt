@@ -6,7 +6,7 @@ use native.Mathlib.Omega.{arith}
 use native.Mathlib.Nat.{add-zero, suc-add, add-suc}
 use lib.ListN.{length}
 use borrow.Author.Tests.{ne-eqb}
-use Rattle.paper.specs.Sizes.{Width}
+use Rattle.paper.specs.declared.Width.{Width}
 use Rattle.paper.specs.Clauses.{from}
 use Rattle.paper.specs.Session.{Wish, Counter, wishGives, spread, upperOutputs, counterGives}
 use Rattle.paper.proofs.Lists.{All, all-from}

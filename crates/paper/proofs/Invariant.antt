@@ -8,18 +8,20 @@ use lib.Dec.{leb}
 use lib.IntN.{ℤ, pos}
 use lib.ListN.{length, getD, length-append, List·getD-append}
 use borrow.Author.Tests.{ltb-true, le-leb}
-use Rattle.paper.specs.Sizes.{Width, narrow, mostVariables, mostWeight, firstWish, wishVariable, firstCounter, counterStart, numbersEnd}
+use Rattle.paper.specs.Sizes.{narrow, mostVariables, mostWeight, firstWish, wishVariable, firstCounter, counterStart, numbersEnd}
+use Rattle.paper.specs.declared.Width.{Width}
 use Rattle.paper.specs.Clauses.{Clause, Truth, literalTrue, clauseTrue, every, variableTwice}
 use Rattle.paper.specs.Counters.{treeOf, clauses}
-use Rattle.paper.specs.Session.{Wish, Counter, Sheet, Work, Hint, ofRule, ofWish, ofCounter, ofDerived, ofNothing, blank, noWork, noWish, noCounter, hintNamed, hintClause, given, counterGives, problemLiteral}
+use Rattle.paper.specs.Session.{Wish, Counter, Sheet, Work, Hint, ofRule, ofWish, ofCounter, ofDerived, ofNothing, blank, noWork, noWish, noCounter, hintNamed, hintClause, given, counterGives, problemLiteral, namedLiteral}
 use Rattle.paper.specs.Truth.{meets, weightOn}
 use Rattle.paper.specs.Steps.{rule, wish, derive, accepted, addRule, addWish, addDerived}
-use Rattle.paper.proofs.Lists.{and-split, and-both, every-snoc, every-before, every-at}
+use Rattle.paper.proofs.Lists.{and-split, and-both, every-mono, every-snoc, every-before, every-at}
 use Rattle.paper.proofs.Trees.{Fits}
 use Rattle.paper.proofs.CounterTruth.{Positive, tree-positive, clause-true}
 use Rattle.paper.proofs.Sums.{weight-zero}
 use Rattle.paper.proofs.Readings.{shown-true}
 use Rattle.paper.proofs.Truths.{Faithful, Ordered}
+use Rattle.paper.proofs.Bounds.{below, named-below}
 use Rattle.paper.proofs.Given.{wishes-append}
 use Rattle.paper.proofs.Accepted.{rule-taken, wish-taken, derive-taken}
 
@@ -37,6 +39,7 @@ pub record Sound (S : Sheet) (W : Work) : Type 0 where
   pub light : every (λ (x : Wish). leb (x .weight) mostWeight) (S .wishes) ≡ true
   pub ordered : Ordered (S .width) firstCounter (W .counters)
   pub derivedForm : every (λ c. leb (length c) (S .width .literals) && not (variableTwice c)) (W .derived) ≡ true
+  pub derivedBelow : every (every (below (numbersEnd (S .width)))) (W .derived) ≡ true
   pub derivedTrue : (t : Truth) → Faithful S W t → meets S t ≡ true → every (clauseTrue t) (W .derived) ≡ true
   pub within : (v : ℕ) → W .used v ≤ given S W v
   pub balanced : (t : Truth) → Faithful S W t → meets S t ≡ true → Balanced (numbersEnd (S .width)) (S .width .stride) W t
@@ -58,6 +61,7 @@ sound-blank n ft h = record {
   light = refl;
   ordered = tt;
   derivedForm = refl;
+  derivedBelow = refl;
   derivedTrue = λ t f m. refl;
   within = λ v. omega arith;
   balanced = λ t f m. blank-balanced (numbersEnd narrow) (narrow .stride) t;
@@ -91,6 +95,7 @@ sound-rule S W c e s =
       light = s .light;
       ordered = s .ordered;
       derivedForm = s .derivedForm;
+      derivedBelow = s .derivedBelow;
       derivedTrue = λ t f m. s .derivedTrue t (same t f) (every-before (clauseTrue t) (S .rules) (c ∷ []) m);
       within = s .within;
       balanced = λ t f m. s .balanced t (same t f) (every-before (clauseTrue t) (S .rules) (c ∷ []) m);
@@ -113,6 +118,7 @@ sound-wish S W w c e s =
       light = every-snoc (λ (x : Wish). leb (x .weight) mostWeight) (S .wishes) new (s .light) (le-leb _ _ (taken .light));
       ordered = s .ordered;
       derivedForm = s .derivedForm;
+      derivedBelow = s .derivedBelow;
       derivedTrue = λ t f m. s .derivedTrue t (same t f) m;
       within = λ v. let g = s .within v in rw (wishes-append (S .wishes) (new ∷ []) firstWish v) (omega arith);
       balanced = λ t f m. s .balanced t (same t f) m;
@@ -188,6 +194,10 @@ sound-derive S W c hints e s =
       derivedForm =
           every-snoc (λ x. leb (length x) (S .width .literals) && not (variableTwice x)) (W .derived) c (s .derivedForm)
           (and-both _ _ (le-leb _ _ (taken .short)) (ap not (taken .once)));
+      derivedBelow =
+          every-snoc (every (below (numbersEnd (S .width)))) (W .derived) c (s .derivedBelow)
+          (every-mono (namedLiteral S W) (below (numbersEnd (S .width))) c
+          (named-below S W (s .fits) (s .small) (let f = s .few in omega arith) (s .fewCounters) (s .ordered)) (taken .named));
       derivedTrue = λ t f m.
           let old = s .derivedTrue t (same t f) m in
           every-snoc (clauseTrue t) (W .derived) c old (derive-true S W t (same t f) (s .ordered) m old c hints e);

@@ -159,14 +159,14 @@ named-open [] s r h e = absurd (true≢false (sym e ∙ ap (λ (z : Session). hi
 named-open (x ∷ es) s r h e = run-open (next fresh (x .step)) es s (first-opens (x .step) (r .0)) (r .2)
 
 pub unmoved : Unmoved
-unmoved es s r m h e = go (accepted s m) refl
+unmoved s r m h e = go (accepted s m) refl
   where
     go : (b : Bool) → accepted s m ≡ b
         → (hintNamed (next s m .sheet) (next s m .work) h ≡ true)
         × (hintClause (next s m .sheet) (next s m .work) h ≡ hintClause (s .sheet) (s .work) h)
     go false u = rw (next-refused s m u) (e, refl)
     go true u =
-        let o = named-open es s r h e in
+        let o = named-open (r .0) s (r .1) h e in
         rw (next-accepted s m u)
         (hint-later (s .sheet) (effect s m .sheet) (s .work) (effect s m .work) (sheet-later s m o u) (work-later s m o u) h e)
 

@@ -8,10 +8,12 @@ pub mod Sums
 pub mod Readings
 pub mod Truths
 pub mod Given
+pub mod Bounds
 pub mod Accepted
 pub mod Invariant
 pub mod CoreKept
 pub mod Costs
 pub mod Later
 pub mod Reorder
+pub mod Reach
 pub mod Promised

@@ -17,7 +17,7 @@ use Rattle.paper.specs.declared.Answer.{Answer}
 use Rattle.paper.proofs.Lists.{and-split, and-both}
 use Rattle.paper.proofs.Tables.{answer-accepted, next-accepted}
 use Rattle.paper.proofs.Accepted.{opens}
-use Rattle.paper.proofs.Costs.{sound-run}
+use Rattle.paper.proofs.Costs.{reached-sound}
 use Rattle.paper.proofs.Later.{Later, still-open, run-later, derive-later, core-later}
 
 -- An accepted step in front of a run.
@@ -30,7 +30,7 @@ behind : (s : Session) (x : Entry) (es : List Entry) (s′ : Session) → Runs s
     → (accepted s (x .step) ≡ true) × (reply s (x .step) ≡ x .answer) × Runs (effect s (x .step)) es s′
 behind s x es s′ h = (h .0, sym (answer-accepted s (x .step) (h .0)) ∙ h .1, rw (next-accepted s (x .step) (h .0)) at (h .2))
 
-joined : (s : Session) (es fs : List Entry) (s′ s″ : Session) → Runs s es s′ → Runs s′ fs s″ → Runs s (es ++ fs) s″
+pub joined : (s : Session) (es fs : List Entry) (s′ s″ : Session) → Runs s es s′ → Runs s′ fs s″ → Runs s (es ++ fs) s″
 joined s [] fs s′ s″ h k = rw h k
 joined s (e ∷ es) fs s′ s″ h k = (h .0, h .1, joined (next s (e .step)) es fs s′ s″ (h .2) k)
 
@@ -134,7 +134,7 @@ any-mixture n es s h first k p q =
     let b = behind fresh (openedWith n) es s h in
     let t : Session = effect fresh (opening n) in
     let o : opened t ≡ true = lt-ltb 0 n (let g = opens fresh n (b .0) .some in omega arith) in
-    let few = sound-run (openedWith n ∷ es) s h .few in
+    let few = reached-sound s (openedWith n ∷ es, h) .few in
     let all = parts t es s o (b .2) in
     ahead fresh (opening n) (openedWith n .answer) (first ++ select isWork es) s (b .0) (b .1)
     (joined t first (select isWork es) (record { sheet = s .sheet; work = t .work }) s

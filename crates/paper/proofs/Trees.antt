@@ -8,7 +8,8 @@ use native.Mathlib.Omega.{arith}
 use lib.Dec.{leb, ltb, eqb}
 use lib.ListN.{length, take, drop, getD, take-append-drop, length-take, length-drop, length-append}
 use borrow.Author.Tests.{ltb-true, ltb-false, lt-ltb, le-ltb, leb-true, eqb-true, eqb-false}
-use Rattle.paper.specs.Sizes.{Width, narrow}
+use Rattle.paper.specs.Sizes.{narrow}
+use Rattle.paper.specs.declared.Width.{Width}
 use Rattle.paper.specs.Clauses.{Truth, from, only}
 use Rattle.paper.specs.Counters.{Tree, input, node, halved, treeOf, inputs, variables, clauses, ownClauses, variablesOf, clausesOf}
 use Rattle.paper.specs.Truth.{trueInputs}

@@ -10,7 +10,8 @@ use lib.Dec.{leb, ltb}
 use lib.IntN.{ℤ, pos, negsuc}
 use lib.ListN.{length, getD}
 use borrow.Author.Tests.{lt-ltb, le-ltb, leb-true, le-leb, lt-leb, eq-eqb, ne-eqb}
-use Rattle.paper.specs.Sizes.{Width, firstWish, wishVariable, firstCounter, counterStart, mostVariables}
+use Rattle.paper.specs.Sizes.{firstWish, wishVariable, firstCounter, counterStart, mostVariables}
+use Rattle.paper.specs.declared.Width.{Width}
 use Rattle.paper.specs.Clauses.{Clause, Truth, variable, literalTrue, clauseTrue, every, pick}
 use Rattle.paper.specs.Counters.{Tree, input, node, treeOf, inputs, variables, leftStart, rightStart}
 use Rattle.paper.specs.Session.{Wish, Counter, Sheet, Work, noWish, noCounter, problemLiteral}
@@ -33,11 +34,11 @@ Ordered u start (x ∷ xs) =
 
 -- ── One counter ──
 
-abbrev Below : ℕ → Tree → Type 0
+abbrev pub Below : ℕ → Tree → Type 0
 Below n (input v) = v < n
 Below n (node l r) = Below n l × Below n r
 
-tree-below : (n : ℕ) (xs : List ℕ) → 0 < length xs → All (λ v. v < n) xs → Below n (treeOf xs)
+pub tree-below : (n : ℕ) (xs : List ℕ) → 0 < length xs → All (λ v. v < n) xs → Below n (treeOf xs)
 tree-below n =
     of-tree (λ ys x. All (λ v. v < n) ys → Below n x) (λ x a. a .0)
     (λ ys zs l r hy hz p q a. let s = all-split (λ v. v < n) ys zs a in (p (s .0), q (s .1)))

@@ -1,5 +1,5 @@
--- What is proved of the description, one statement a promise and no proofs; proofs/Promised.antt says where each is proved. A run
--- is an accepted run from the fresh session, its opening included, and nothing else is assumed of it.
+-- What is proved of the description, one statement a promise and no proofs; proofs/Promised.antt says where each is proved. A
+-- session is one that accepted steps have reached from the fresh one, and nothing else is assumed of it.
 use mathlib.Core.Path.{_≡_}
 use mathlib.Core.Bool.{Bool, true, false, _||_, _&&_}
 use mathlib.Core.List.{List, [], _∷_, _++_, map}
@@ -13,7 +13,7 @@ use Rattle.paper.specs.Session.{Session, Hint, fresh, ofCounter, remaini
 use Rattle.paper.specs.Truth.{meets, cost, truth, weightOn, allWeights}
 use Rattle.paper.specs.Answers.{Refusal, numbers, clear}
 use Rattle.paper.specs.Steps.{Step, opening, derive, judge, refusals, reply, effect, accepted, answer, next}
-use Rattle.paper.specs.Runs.{Entry, Runs, select, isRule, isWish, isWork}
+use Rattle.paper.specs.Runs.{Entry, Runs, Reached, select, isRule, isWish, isWork}
 use Rattle.paper.specs.Worked.{computed, printed}
 use Rattle.paper.specs.declared.Answer.the-variants.{Opened, Best}
 
@@ -67,7 +67,7 @@ Listed =
 -- Every clause of every counter is true of every arrangement, whether it meets the rules or not.
 abbrev pub CountersTrue : Type 0
 CountersTrue =
-    (es : List Entry) (s : Session) → Runs fresh es s → (a : Truth) (c i : ℕ) → hintNamed (s .sheet) (s .work) (ofCounter c i) ≡ true
+    (s : Session) → Reached s → (a : Truth) (c i : ℕ) → hintNamed (s .sheet) (s .work) (ofCounter c i) ≡ true
     → clauseTrue (truth (s .sheet) (s .work) a) (hintClause (s .sheet) (s .work) (ofCounter c i)) ≡ true
 
 -- ── Demand 2 ──
@@ -75,19 +75,19 @@ CountersTrue =
 -- Every derived clause is true of every arrangement that meets the rules.
 abbrev pub DerivedTrue : Type 0
 DerivedTrue =
-    (es : List Entry) (s : Session) → Runs fresh es s → (a : Truth) → meets (s .sheet) a ≡ true
+    (s : Session) → Reached s → (a : Truth) → meets (s .sheet) a ≡ true
     → every (clauseTrue (truth (s .sheet) (s .work) a)) (s .work .derived) ≡ true
 
 -- Where the empty clause is accepted as a derived clause, no arrangement meets the rules.
 abbrev pub EmptyClause : Type 0
 EmptyClause =
-    (es : List Entry) (s : Session) → Runs fresh es s → (hints : List Hint) → accepted s (derive [] hints) ≡ true
+    (s : Session) → Reached s → (hints : List Hint) → accepted s (derive [] hints) ≡ true
     → (a : Truth) → meets (s .sheet) a ≡ false
 
 -- An arrangement called best meets the rules, has the cost that is given, and has no cheaper rival.
 abbrev pub NoCheaper : Type 0
 NoCheaper =
-    (es : List Entry) (s : Session) → Runs fresh es s → (a : Truth) (k bound : ℕ) → answer s (judge a) ≡ Best k bound
+    (s : Session) → Reached s → (a : Truth) (k bound : ℕ) → answer s (judge a) ≡ Best k bound
     → (meets (s .sheet) a ≡ true) × (cost (s .sheet) a ≡ k) × (s .work .bound ≡ bound)
     × ((b : Truth) → meets (s .sheet) b ≡ true → cost (s .sheet) a ≤ cost (s .sheet) b)
 
@@ -115,21 +115,21 @@ Reordered =
 -- sum is over variable numbers, so each counts once; only wish variables and counter outputs have weight.
 abbrev pub CostLaw : Type 0
 CostLaw =
-    (es : List Entry) (s : Session) → Runs fresh es s → (a : Truth) → meets (s .sheet) a ≡ true
+    (s : Session) → Reached s → (a : Truth) → meets (s .sheet) a ≡ true
     → cost (s .sheet) a
     ≡ s .work .bound + weightOn (truth (s .sheet) (s .work) a) (numbersEnd (s .sheet .width)) (remaining (s .sheet) (s .work))
 
 -- The bound and all remaining weights together are the summed weight of the wishes.
 abbrev pub TotalLaw : Type 0
 TotalLaw =
-    (es : List Entry) (s : Session) → Runs fresh es s
+    (s : Session) → Reached s
     → (s .work .bound + weightOn (λ v. true) (numbersEnd (s .sheet .width)) (remaining (s .sheet) (s .work)) ≡ allWeights (s .sheet .wishes))
     × (s .work .bound ≤ 512000000)
 
 -- No accepted step moves a clause that a hint could name before it.
 abbrev pub Unmoved : Type 0
 Unmoved =
-    (es : List Entry) (s : Session) → Runs fresh es s → (m : Step) (h : Hint) → hintNamed (s .sheet) (s .work) h ≡ true
+    (s : Session) → Reached s → (m : Step) (h : Hint) → hintNamed (s .sheet) (s .work) h ≡ true
     → (hintNamed (next s m .sheet) (next s m .work) h ≡ true)
     × (hintClause (next s m .sheet) (next s m .work) h ≡ hintClause (s .sheet) (s .work) h)
 

@@ -5,7 +5,7 @@ use mathlib.Core.List.{List, [], _∷_}
 use Prim.Native.Nat.{ℕ, suc}
 use lib.Dec.{eqb}
 use Rattle.paper.specs.Clauses.{pick}
-use Rattle.paper.specs.Session.{Session}
+use Rattle.paper.specs.Session.{Session, fresh}
 use Rattle.paper.specs.Answers.{Numbers, numbers}
 use Rattle.paper.specs.Steps.{Step, opening, rule, wish, derive, core, judge, accepted, answer, next}
 use Rattle.paper.specs.declared.Answer.{Answer}
@@ -19,6 +19,10 @@ pub record Entry : Type 0 where
 abbrev pub Runs : Session → List Entry → Session → Type 0
 Runs s [] s′ = s ≡ s′
 Runs s (e ∷ es) s′ = (accepted s (e .step) ≡ true) × (answer s (e .step) ≡ e .answer) × Runs (next s (e .step)) es s′
+
+-- Only accepted steps have written the session since it was fresh.
+abbrev pub Reached : Session → Type 0
+Reached s = (es : List Entry) × Runs fresh es s
 
 -- A record's kind.
 abbrev pub kindOf : Step → ℕ

@@ -6,8 +6,9 @@ use Prim.Native.Nat.{ℕ, zero, suc, _+_, _-_}
 use lib.IntN.{ℤ, pos}
 use lib.Dec.{eqb, leb, ltb}
 use lib.ListN.{length, getD}
-use Rattle.paper.specs.Sizes.{Width, narrow, firstWish, wishVariable, firstCounter, counterStart}
-use Rattle.paper.specs.Clauses.{Clause, variable, only, from}
+use Rattle.paper.specs.Sizes.{narrow, firstWish, wishVariable, firstCounter, counterStart}
+use Rattle.paper.specs.declared.Width.{Width}
+use Rattle.paper.specs.Clauses.{Clause, variable, only, pick, from}
 use Rattle.paper.specs.Counters.{treeOf, variables, clauses, clauseAt}
 
 pub record Wish : Type 0 where
@@ -101,6 +102,16 @@ pub data Hint : Type 0 where
   ofCounter : ℕ → ℕ → Hint
   ofDerived : ℕ → Hint
   ofNothing : Hint
+
+-- Family 1 is rules, 2 wish clauses, 4 derived clauses: the first number is 0, the second the clause's. Family 3 is counters: the
+-- first number is the counter's, the second its clause's.
+abbrev pub hintOf : ℕ → ℕ → ℕ → Hint
+hintOf family first second =
+    pick (eqb family 3) (ofCounter first second)
+    (pick (ltb 0 first) ofNothing
+    (pick (eqb family 1) (ofRule second)
+    (pick (eqb family 2) (ofWish second)
+    (pick (eqb family 4) (ofDerived second) ofNothing))))
 
 abbrev pub noWish : Wish
 noWish = record { literals = []; weight = 0 }

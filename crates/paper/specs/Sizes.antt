@@ -1,12 +1,8 @@
 -- "Sizes": how much a session holds, and which variable has which number.
 use Prim.Native.Nat.{ℕ, _+_, _*_}
+use Rattle.paper.specs.declared.Width.{Width}
 
--- The sizes that go with the kind of the opening record. They are one value, so that every law is stated over them.
-pub record Width : Type 0 where
-  pub literals : ℕ  -- at most so many in a clause, and inputs at most in a counter
-  pub stride : ℕ  -- from one counter's first variable to the next one's
-  pub counters : ℕ  -- at most so many
-
+-- The width of a session that a record of kind 1 opens.
 abbrev pub narrow : Width
 narrow = record { literals = 64; stride = 384; counters = 128 }
 

@@ -5,7 +5,8 @@ use Prim.Native.Nat.{ℕ, suc, _+_, min}
 use lib.IntN.{ℤ}
 use lib.Dec.{eqb, leb, ltb}
 use lib.ListN.{length, getD}
-use Rattle.paper.specs.Sizes.{Width, Room, mostVariables, mostWeight, mostHints, ruleRoom, wishRoom, derivedRoom, wishVariable}
+use Rattle.paper.specs.Sizes.{Room, mostVariables, mostWeight, mostHints, ruleRoom, wishRoom, derivedRoom, wishVariable}
+use Rattle.paper.specs.declared.Width.{Width}
 use Rattle.paper.specs.Clauses.{Clause, Truth, variable, positive, clauseTrue, every, variableTwice, literalsIn, pick}
 use Rattle.paper.specs.Session.{Wish, Counter, Sheet, Work, Session, Hint, blank, noWork, spread, remaining, problemLiteral, namedLiteral, hintNamed, hintClause}
 use Rattle.paper.specs.Truth.{meets, cost}

@@ -1,5 +1,15 @@
 // The types that the definitions, the code over them and its readers share.
 
+// The sizes that go with the kind of the opening record. They are one value, so that laws and code are stated over them.
+pub struct Width {
+    // at most so many in a clause, and inputs at most in a counter
+    pub literals: u32,
+    // from one counter's first variable to the next one's
+    pub stride: u32,
+    // at most so many
+    pub counters: u32,
+}
+
 // What a step answers; `specs/Answers.antt` gives the number and the two values for each case.
 pub enum Answer {
     // n
