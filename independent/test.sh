@@ -1,0 +1,319 @@
+#!/bin/sh
+# The tests of the independent tally: its answers on known runs and edges, the
+# round trip of the script form, the reach of the generators, and the second
+# opinion of the naive program. Arguments: the tally and the naive program.
+tally=$1
+naive=$2
+work=build/test.$$
+passed=0
+failed=0
+
+mkdir -p "$work"
+trap 'rm -rf "$work"' EXIT
+
+check() { # name, what came, what should have come
+    if [ "$2" = "$3" ]; then
+        passed=$((passed + 1))
+    else
+        failed=$((failed + 1))
+        printf 'FAILED: %s\n  came:     %s\n  expected: %s\n' "$1" "$2" "$3"
+    fi
+}
+
+# The answers to a script, without places and kinds, joined by commas.
+answers() {
+    printf '%s\n' "$@" | "$tally" assemble > "$work/script.records" || return
+    "$tally" run < "$work/script.records" | cut -d ' ' -f 3- | paste -s -d , -
+}
+
+# The same for bytes written in hexadecimal, with places and kinds.
+lines() {
+    printf 'bytes %s\n' "$*" | "$tally" assemble | "$tally" run | paste -s -d , -
+}
+
+sheet() { # text with printf escapes, expected answer, room
+    check "sheet $1" "$(printf "$1" | "$tally" text-answer ${3:+"$3"})" "$2"
+}
+
+numbers() { # the literals from 1 to $1
+    awk -v n="$1" 'BEGIN { for (v = 1; v <= n; v++) printf " %d", v }'
+}
+
+# --- known runs -----------------------------------------------------------
+"$tally" assemble < worked.txt > "$work/worked.records"
+"$tally" run < "$work/worked.records" > "$work/worked.came"
+check "worked run" "$(cat "$work/worked.came")" "$(cat worked.lines)"
+check "worked run has 21 lines" "$(grep -c . "$work/worked.came")" 21
+check "worked run told in words" "$("$tally" explain < "$work/worked.records" |
+    cut -c 25- | sed -n '9p;14p;20p' | paste -s -d '|' -)" \
+    "core 0: bound is now 2, each member lowered by 2; counter 0 over 2 inputs|judge 110: best, cost 5 equals the bound|core 0: refused, member 2001 has no weight left"
+check "empty input" "$("$tally" run < /dev/null)" ""
+check "empty input told" "$("$tally" explain < /dev/null)" ""
+
+# --- edges of the records -------------------------------------------------
+check "open 0 and 2001" "$(answers 'open 0' 'open 2001' 'open 4294967295' 'open 1')" \
+    "14 0 0,14 0 0,14 0 0,0 1 0"
+check "open 2000" "$(answers 'open 2000' 'open 5' 'open 0')" "0 2000 0,12 0 0,12 0 0"
+check "empty rule" "$(answers 'open 1' rule 'judge 0' 'judge 1')" \
+    "0 1 0,0 0 0,24 0 0,24 0 0"
+check "empty wish" "$(answers 'open 1' 'wish 7' 'judge 0' 'judge 1' 'derive 2001 by wish 0' \
+    'core 0' 'judge 1')" "0 1 0,0 0 2001,0 7 0,0 7 0,0 0 1,0 7 7,1 7 7"
+many=$(numbers 64)
+check "64 and 65 literals" "$(answers 'open 100' "rule$many" "rule$many 65" "wish 1$many" \
+    "wish 1$many 65" "derive$many by rule 0" "derive$many 65 by rule 0")" \
+    "0 100 0,0 0 0,16 0 0,0 0 2001,16 0 0,0 0 64,16 0 0"
+check "least literal" "$(answers 'open 3' 'rule -2147483648' 'wish 1 -2147483648' \
+    'derive -2147483648')" "0 3 0,17 0 0,17 0 0,17 0 0"
+check "ending at the first of two hints" "$(answers 'open 3' 'rule 1' 'derive 1 by rule 0, rule 0' \
+    'derive 1 by rule 0')" "0 3 0,0 0 0,20 0 0,0 0 1"
+check "one-member core makes no counter" "$(answers 'open 1' 'rule 1' 'wish 4 -1' \
+    'derive 2001 by wish 0, rule 0' 'core 0' 'derive 4001' 'core 0')" \
+    "0 1 0,0 0 0,0 0 2001,0 0 1,0 4 4,17 0 0,22 0 0"
+check "weights" "$(answers 'open 1' 'wish 0' 'wish 1' 'wish 1000000' 'wish 1000001')" \
+    "0 1 0,15 0 0,0 0 2001,0 1 2002,15 0 0"
+check "variables between n and the wishes" "$(answers 'open 5' 'rule 6' 'rule -5' \
+    'derive 6' 'derive 2000' 'derive 2001' 'wish 1' 'derive 2001' 'derive 2002' 'derive 4001')" \
+    "0 5 0,17 0 0,0 0 0,17 0 0,17 0 0,17 0 0,0 0 2001,20 0 0,17 0 0,17 0 0"
+check "a true literal forces nothing" "$(answers 'open 3' 'rule 1 2' 'rule -1 2' \
+    'derive -1 by rule 0, rule 1' 'derive 2 by rule 0, rule 1')" \
+    "0 3 0,0 0 0,0 1 0,20 0 0,0 0 1"
+check "no hints and no ending" "$(answers 'open 3' 'rule 1 2' 'rule 1 2 3' 'derive 1' \
+    'derive 1 by rule 0' 'derive 1 by rule 1')" "0 3 0,0 0 0,0 1 0,20 0 0,20 0 0,20 0 0"
+check "an empty clause ends" "$(answers 'open 1' rule 'derive by rule 0' \
+    'derive 1 by derived 0' 'derive -1 by rule 0, rule 0' 'core 0' 'core 1')" \
+    "0 1 0,0 0 0,0 0 0,0 1 1,20 0 0,22 0 0,22 0 0"
+check "literals before repeats, repeats before hints" "$(answers 'open 3' 'rule 1 1 9' \
+    'rule 1 -1' 'wish 0 1 1' 'derive 1 1 9 by rule 7' 'derive 1 1 by rule 7' 'derive 1 by rule 7')" \
+    "0 3 0,17 0 0,18 0 0,15 0 0,17 0 0,18 0 0,19 0 0"
+check "core refusals" "$(answers 'open 2' 'rule 1 2' 'wish 2 -1' 'core 0' \
+    'derive 1 2 by rule 0' 'core 0' 'derive -1 2001 by wish 0' 'core 1' 'core 2')" \
+    "0 2 0,0 0 0,0 0 2001,21 0 0,0 0 2,22 0 0,0 1 2,22 0 0,21 0 0"
+check "hint families" "$(answers 'open 1' 'rule 1' 'raw 0400 01000000 01000000 0000 0000 00000000' \
+    'raw 0400 01000000 01000000 0500 0000 00000000' 'raw 0400 01000000 01000000 0100 0100 00000000' \
+    'raw 0400 01000000 01000000 0100 0000 00000000' 'derive 1 by counter 0 clause 0')" \
+    "0 1 0,0 0 0,19 0 0,19 0 0,19 0 0,0 0 1,19 0 0"
+
+check "root output 1 has no weight" "$(answers 'open 2' 'rule 1 2' 'wish 3 -1' 'wish 3 -2' \
+    'derive 2001 2002 by wish 0, wish 1, rule 0' 'core 0' \
+    'derive 4001 by counter 0 clause 0, counter 0 clause 1, derived 0' 'core 1')" \
+    "0 2 0,0 0 0,0 0 2001,0 1 2002,0 0 2,0 3 3,0 1 1,22 0 0"
+
+# Counters of every width: the last clause and variable, and one past each.
+# The sizes are worked out here by halving.
+width=2
+broken=
+while [ "$width" -le 64 ]; do
+    awk -v m="$width" '
+    function names(s) { return s < 2 ? 0 : s + names(int(s / 2)) + names(s - int(s / 2)) }
+    function clauses(s, p) {
+        p = int(s / 2)
+        return s < 2 ? 0 : (p + 1) * (s - p + 1) - 1 + clauses(p) + clauses(s - p)
+    }
+    BEGIN {
+        for (v = 1; v <= m; v++) { rule = rule " " v; core = core " " 2000 + v }
+        for (v = 1; v <= m; v++) hints = hints " wish " v - 1 ","
+        print "open 64\nrule" rule
+        for (v = 1; v <= m; v++) print "wish 1 -" v
+        print "derive" core " by" hints " rule 0\ncore 0"
+        print "derive 1 by counter 0 clause " clauses(m) - 1
+        print "derive 1 by counter 0 clause " clauses(m)
+        print "derive " 4000 + names(m) "\nderive " 4001 + names(m)
+    }' | "$tally" assemble | "$tally" run | tail -n 5 | cut -d ' ' -f 3 | paste -s -d , - > "$work/out"
+    [ "$(cat "$work/out")" = "0,20,19,20,17" ] || broken="$broken $width"
+    width=$((width + 1))
+done
+check "sizes of counters of every width" "$broken" ""
+
+# 129 cores of two members: the last finds no room for a counter.
+awk 'BEGIN {
+    print "open 2\nrule 1 2\nwish 1000000 -1"
+    for (j = 1; j <= 129; j++) {
+        print "wish 1 -2"
+        printf "derive 2001 %d by wish 0, wish %d, rule 0\ncore %d\n", 2001 + j, j, j - 1
+    }
+    print "wish 5\nderive 2131 by wish 130\ncore 129\ncore 0"
+}' > "$work/cores.txt"
+"$tally" assemble < "$work/cores.txt" | "$tally" run | awk '$2 == 5' > "$work/cores.lines"
+check "core 127 and 128" "$(sed -n '128,132p' "$work/cores.lines" | cut -d ' ' -f 3- |
+    paste -s -d , -)" "0 128 1,23 0 0,0 133 5,22 0 0"
+
+check "frames" "$(lines 00)|$(lines 000000)|$(lines 00000000)|$(lines 01000000 06)|$(lines 01100000)" \
+    "1 0 10 0 0|1 0 10 0 0|1 0 10 0 0|1 0 10 0 0|1 0 10 0 0"
+check "a frame cut short ends the run" "$(lines 06000000 0100 03000000 05000000 0600 00)" \
+    "1 1 0 3 0,2 0 10 0 0"
+check "nothing is read behind 10" "$(lines 00000000 06000000 0100 03000000)" "1 0 10 0 0"
+check "kind before moment before form" \
+    "$(lines 02000000 0000 02000000 0700 02000000 ffff 03000000 0200 00 02000000 0100)" \
+    "1 0 11 0 0,2 7 11 0 0,3 65535 11 0 0,4 2 12 0 0,5 1 13 0 0"
+check "forms" "$(answers 'open 9' 'raw 0200 00' 'raw 0300' 'raw 0300 010000' 'raw 0400' \
+    'raw 0400 01000000' 'raw 0400 ffffffff 00000000' 'raw 0400 00000000 00' 'raw 0500' \
+    'raw 0500 0000000000' 'raw 0600 00' 'raw 0600 0002' 'raw 0600 000000' 'raw 0600 ff01')" \
+    "0 9 0,13 0 0,13 0 0,13 0 0,13 0 0,13 0 0,13 0 0,13 0 0,13 0 0,13 0 0,13 0 0,13 0 0,13 0 0,1 0 0"
+check "257 hints" "$(answers 'open 1' 'rule 1' \
+    "derive 1 by rule 0$(awk 'BEGIN { for (k = 1; k < 256; k++) printf ", rule 0" }')" \
+    "derive 1 by rule 0$(awk 'BEGIN { for (k = 1; k < 257; k++) printf ", rule 0" }')")" \
+    "0 1 0,0 0 0,20 0 0,19 0 0"
+check "a late wish moves nothing" "$(answers 'open 2' 'rule 1 2' 'wish 3 -1' 'wish 3 -2' \
+    'derive 2001 2002 by wish 0, wish 1, rule 0' 'core 0' 'judge 10' 'wish 4 -1' 'judge 10' \
+    'derive -2001 -2002 4002 by counter 0 clause 2')" \
+    "0 2 0,0 0 0,0 0 2001,0 1 2002,0 0 2,0 3 3,1 3 3,0 2 2003,0 7 3,0 1 3"
+
+# --- the older text -------------------------------------------------------
+sheet '' '30 0 0'
+sheet 'c only\n' '30 0 0'
+sheet 'p wcnf 1 0 1' '0 12 10'
+sheet 'p wcnf 2 2 5\n5 1 -2 0\n3 2 0\n' '0 28 38'
+sheet 'p wcnf 2 2 5\n5 1 -2 0\n3 2 0\n' '0 28 38' 38
+sheet 'p wcnf 2 2 5\n5 1 -2 0\n3 2 0\n' '34 28 0' 37
+sheet 'p wcnf 2 2 5\n5 1 -2 0\n3 2 0\n' '34 28 0' 0
+sheet ' \t\r\nc\n  p wcnf\t1\r0 1 \r\nc' '0 24 10'
+sheet ' c\np wcnf 1 0 1\n' '30 0 0'
+sheet 'p wcnf 1 0\n1\n' '30 0 0'
+sheet 'p wcnf 1 0 1 1\n' '30 0 0'
+sheet 'p wcnf1 0 1\n' '30 0 0'
+sheet 'p wcnf 1 0 4294967296\n' '30 0 0'
+sheet 'p wcnf   0 0 1\n' '14 9 0'
+sheet 'p wcnf 2001 0 1\n' '14 7 0'
+sheet 'p wcnf 0 0 x\n' '30 0 0'
+sheet 'p wcnf 2 1 5\n5 1\nc between\n2 0\n' '0 31 24'
+sheet 'p wcnf 2 1 5\n5 1\n c\n2 0\n' '31 18 0'
+sheet 'p wcnf 2 1 5\n5 1 -0\n' '31 17 0'
+sheet 'p wcnf 2 1 5\n5 +1 0\n' '31 15 0'
+sheet 'p wcnf 2 1 5\n-5 1 0\n' '31 13 0'
+sheet 'p wcnf 2 1 5\n5 2147483648 0\n' '31 15 0'
+sheet 'p wcnf 2 1 5\n5 2147483647 0\n' '17 13 0'
+sheet 'p wcnf 2 1 5\n 0 1 0\n' '15 14 0'
+sheet 'p wcnf 2 1 0\n0 1 0\n' '0 19 20'
+sheet 'p wcnf 2 1 5\n6 1 0\n' '0 19 24'
+sheet 'p wcnf 2 1 5\n005 01 00\n' '0 23 20'
+sheet 'p wcnf 2 1 5\n5 1 -1 0\n' '18 13 0'
+sheet 'p wcnf 2 1 5\n5 1' '32 16 0'
+sheet 'p wcnf 2 0 5\n5' '32 14 0'
+sheet 'p wcnf 2 1 5\n' '33 13 0'
+sheet 'p wcnf 2 0 5\n5 1 0' '33 18 0'
+sheet "p wcnf 70 1 5\\n5$many 0\\n" "0 201 272"
+sheet "p wcnf 70 1 5\\n5$many 65 0\\n" "16 14 0"
+printf 'p wcnf 2 1 5\n5 1 2 0\n' | "$tally" text | "$tally" run > "$work/sheet.lines"
+check "a sheet's records run" "$(paste -s -d , "$work/sheet.lines")" "1 1 0 2 0,2 2 0 0 0"
+
+# --- what a person meets --------------------------------------------------
+"$tally" > "$work/out" 2> "$work/err"
+check "no command" "$? $(grep -c usage "$work/err") $(wc -c < "$work/out" | tr -d ' ')" "2 1 0"
+"$tally" sing > "$work/out" 2> "$work/err"
+check "unknown command" "$? $(head -n 1 "$work/err")" '2 tally: there is no command "sing"'
+"$tally" generate x 2> "$work/err"
+check "bad seed" "$?" 2
+"$tally" generate 1 nothing 2> "$work/err"
+check "unknown kind" "$? $(cat "$work/err")" \
+    '2 tally: no kind is called "nothing"; tally names lists them'
+printf 'p wcnf 2 1 5\n5 1 x 0\n' | "$tally" text > "$work/out" 2> "$work/err"
+check "a refused sheet" "$? $(wc -c < "$work/out" | tr -d ' ') $(cat "$work/err")" \
+    "1 0 tally: 31 at byte 17, line 2, column 5: this word is not a number that may stand here"
+printf 'open 3\nrule 1 x\n' | "$tally" assemble > "$work/out" 2> "$work/err"
+check "a refused script" "$? $(wc -c < "$work/out" | tr -d ' ') $(cat "$work/err")" \
+    '1 0 tally: line 2: a literal must be a whole number of 32 bits, not "x"'
+for line in 'open' 'open 3 4' 'open x' 'wish' 'wish x 1' 'core' 'judge' 'judge 12' 'raw 0' \
+    'raw 02' 'raw zz' 'derive 1 by' 'derive 1 by rule' 'derive 1 by rule 0,' 'derive 1 by rule 0 rule 1' \
+    'derive 1 by counter 0 2' 'derive 1 by counter 70000 clause 1' 'rule 3000000000' 'sing'; do
+    printf '%s\n' "$line" | "$tally" assemble > "$work/out" 2> "$work/err"
+    check "refused line $line" "$? $(grep -c '^tally: line 1: ' "$work/err")" "1 1"
+done
+
+# --- round trip and reach -------------------------------------------------
+: > "$work/numbers"
+seed=1
+broken=
+while [ "$seed" -le 300 ]; do
+    "$tally" generate "$seed" > "$work/records" || broken="$broken $seed"
+    "$tally" disassemble < "$work/records" > "$work/script"
+    "$tally" assemble < "$work/script" | cmp -s - "$work/records" || broken="$broken $seed"
+    "$tally" run < "$work/records" | cut -d ' ' -f 3 | sort -u >> "$work/numbers"
+    "$tally" explain < "$work/records" > "$work/told" || broken="$broken $seed"
+    seed=$((seed + 1))
+done
+check "round trip of 300 runs" "$broken" ""
+check "every answer in 300 runs" "$(sort -un "$work/numbers" | paste -s -d ' ' -)" \
+    "0 1 10 11 12 13 14 15 16 17 18 19 20 21 22 23 24"
+broken=
+for kind in damaged noise scrambled tiny; do
+    seed=1001
+    while [ "$seed" -le 1025 ]; do
+        "$tally" generate "$seed" "$kind" > "$work/records"
+        "$tally" disassemble < "$work/records" > "$work/script"
+        "$tally" assemble < "$work/script" | cmp -s - "$work/records" ||
+            broken="$broken $kind:$seed"
+        seed=$((seed + 1))
+    done
+done
+check "round trip of damage and noise" "$broken" ""
+"$tally" generate 77 > "$work/first"
+"$tally" generate 77 > "$work/second"
+check "the same seed, the same bytes" "$(cmp "$work/first" "$work/second" && echo same)" same
+
+: > "$work/numbers"
+seed=1
+broken=
+while [ "$seed" -le 300 ]; do
+    "$tally" generate-text "$seed" > "$work/sheet"
+    answer=$("$tally" text-answer < "$work/sheet")
+    echo "${answer%% *}" >> "$work/numbers"
+    if [ "${answer%% *}" = 0 ]; then
+        length=${answer##* }
+        "$tally" text-answer "$((length - 1))" < "$work/sheet" > "$work/short"
+        cut -d ' ' -f 1 "$work/short" >> "$work/numbers"
+        [ "$("$tally" text-answer "$length" < "$work/sheet")" = "$answer" ] ||
+            broken="$broken $seed"
+        [ "$("$tally" text < "$work/sheet" | wc -c | tr -d ' ')" = "$length" ] ||
+            broken="$broken $seed"
+    fi
+    seed=$((seed + 1))
+done
+check "rooms exactly enough" "$broken" ""
+check "every number in 300 texts" "$(sort -un "$work/numbers" | paste -s -d ' ' -)" \
+    "0 14 15 16 17 18 30 31 32 33 34"
+
+# --- rules and wishes moved to the front -----------------------------------
+# What was accepted is put in again with rules and wishes first; the same
+# answers must come, family by family.
+broken=
+for kind in honest cover rack deep twisted forest mixed; do
+    seed=1
+    while [ "$seed" -le 10 ]; do
+        "$tally" generate "$seed" "$kind" > "$work/records"
+        "$tally" run < "$work/records" > "$work/lines"
+        "$tally" disassemble < "$work/records" | paste -d '|' "$work/lines" - |
+            awk -F '[ |]' '$3 == 0 && $2 <= 5' | sort -s -t ' ' -k 2,2n > "$work/sorted"
+        awk -F '[ |]' '$2 <= 3' "$work/sorted" > "$work/moved"
+        awk -F '[ |]' '$2 > 3' "$work/sorted" | sort -n >> "$work/moved"
+        cut -d '|' -f 2- "$work/moved" | "$tally" assemble | "$tally" run |
+            cut -d ' ' -f 2- > "$work/came"
+        cut -d '|' -f 1 "$work/moved" | cut -d ' ' -f 2- | cmp -s - "$work/came" ||
+            broken="$broken $kind:$seed"
+        seed=$((seed + 1))
+    done
+done
+check "rules and wishes first" "$broken" ""
+
+# --- the naive program's opinion -------------------------------------------
+: > "$work/opinions"
+for kind in honest cover rack unsatisfiable mixed twisted; do
+    seed=1
+    while [ "$seed" -le 25 ]; do
+        "$tally" generate "$seed" "$kind" > "$work/records"
+        "$tally" run < "$work/records" > "$work/lines"
+        opinion=$("$naive" "$work/records" "$work/lines")
+        case $? in
+        0) passed=$((passed + 1)); echo "$opinion" >> "$work/opinions" ;;
+        3) ;; # too many variables to go through them all
+        *) check "naive opinion on $kind $seed" "$opinion" "" ;;
+        esac
+        seed=$((seed + 1))
+    done
+done
+"$naive" "$work/worked.records" "$work/worked.came" > "$work/out"
+check "naive opinion on the worked run" "$(cat "$work/out")" "best 2 derived 4 cores 4 unshown 0"
+check "the opinions were about something" "$(awk '{ best += $2; derived += $4; cores += $6 }
+    END { print (best > 100 && derived > 500 && cores > 300) }' "$work/opinions")" 1
+
+echo "$passed passed, $failed failed"
+[ "$failed" -eq 0 ]
