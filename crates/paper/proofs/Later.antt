@@ -12,7 +12,7 @@ use Rattle.paper.specs.Sizes.{mostVariables, firstWish, wishVariable, fi
 use Rattle.paper.specs.Clauses.{Clause, variable, positive, every}
 use Rattle.paper.specs.Session.{Wish, Counter, Sheet, Work, Session, Hint, ofRule, ofWish, ofCounter, ofDerived, ofNothing, fresh, noWish, noCounter, wishClause, wishGives, counterGives, remaining, problemLiteral, namedLiteral, hintNamed, hintClause}
 use Rattle.paper.specs.Steps.{Step, opening, rule, wish, derive, core, judge, opened, member, least, leastFrom, members, coreWeight, accepted, effect, next}
-use Rattle.paper.specs.Runs.{Entry, Runs}
+use Rattle.paper.specs.Runs.{Entry, Runs, Reached}
 use Rattle.paper.specs.Promises.{Unmoved}
 use Rattle.paper.proofs.Lists.{and-split, and-both, or-mono, every-mono}
 use Rattle.paper.proofs.Tables.{next-accepted, next-refused}
@@ -157,6 +157,14 @@ fresh-names ofNothing = refl
 named-open : (es : List Entry) (s : Session) → Runs fresh es s → (h : Hint) → hintNamed (s .sheet) (s .work) h ≡ true → opened s ≡ true
 named-open [] s r h e = absurd (true≢false (sym e ∙ ap (λ (z : Session). hintNamed (z .sheet) (z .work) h) (sym r) ∙ fresh-names h))
 named-open (x ∷ es) s r h e = run-open (next fresh (x .step)) es s (first-opens (x .step) (r .0)) (r .2)
+
+-- Before its opening a reached session is the fresh one.
+pub closed-fresh : (s : Session) → Reached s → opened s ≡ false → s ≡ fresh
+closed-fresh s r c = go (r .0) (r .1)
+  where
+    go : (es : List Entry) → Runs fresh es s → s ≡ fresh
+    go [] h = sym h
+    go (x ∷ es) h = absurd (true≢false (sym (run-open (next fresh (x .step)) es s (first-opens (x .step) (h .0)) (h .2)) ∙ c))
 
 pub unmoved : Unmoved
 unmoved s r m h e = go (accepted s m) refl

@@ -53,7 +53,7 @@ module _ (l r : Tree) (start : ℕ) where
           let k : suc (inputs r) ≤ i = ltb-false _ _ u in
           let q = div-eq-sub-div {m = suc (inputs r)} {n = i} (omega arith) k in
           let e = row-length a 0 (suc (inputs r)) in
-          getD-right (row l r start a 0 (suc (inputs r))) (rows l r start (suc a) n) [] i (omega arith)
+          getD-right (row l r start a 0 (suc (inputs r))) (rows l r start (suc a) n) i [] (omega arith)
           ∙ ap (λ z. getD (rows l r start (suc a) n) (i - z) []) e
           ∙ ih (omega arith)
           ∙ same (suc a + (i - suc (inputs r)) / suc (inputs r)) ((i - suc (inputs r)) % suc (inputs r)) (a + i / suc (inputs r))
@@ -117,15 +117,15 @@ listed-at (node l r) start i =
     go false u true v il ir =
         let h : own ≤ i = ltb-false _ _ u in
         let k : i - own < clauses l = ltb-true _ _ v in
-        getD-right (nodeClauses l r start) rest [] i (omega (arith, own-long))
+        getD-right (nodeClauses l r start) rest i [] (omega (arith, own-long))
         ∙ ap (λ z. getD rest (i - z) []) own-long
         ∙ List·getD-append (allClauses l left) (allClauses r right) [] (i - own) (omega (arith, left-long)) ∙ il
     go false u false v il ir =
         let h : own ≤ i = ltb-false _ _ u in
         let k : clauses l ≤ i - own = ltb-false _ _ v in
-        getD-right (nodeClauses l r start) rest [] i (omega (arith, own-long))
+        getD-right (nodeClauses l r start) rest i [] (omega (arith, own-long))
         ∙ ap (λ z. getD rest (i - z) []) own-long
-        ∙ getD-right (allClauses l left) (allClauses r right) [] (i - own) (omega (arith, left-long))
+        ∙ getD-right (allClauses l left) (allClauses r right) (i - own) [] (omega (arith, left-long))
         ∙ ap (λ z. getD (allClauses r right) (i - own - z) []) left-long ∙ ir
 
 pub listed : Listed

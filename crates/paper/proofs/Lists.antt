@@ -1,10 +1,11 @@
 -- Facts about tests and lists that the proofs of this crate share.
-use mathlib.Core.Path.{_≡_, refl, _∙_, ap}
+use mathlib.Core.Path.{_≡_, refl, ap}
 use mathlib.Core.Bool.{Bool, true, false, not, _||_, _&&_, true≢false, false≢true}
 use mathlib.Core.List.{List, [], _∷_, _++_}
 use Prim.Native.Nat.{ℕ, zero, suc, _+_, _-_, _<_, _≤_}
 use native.Mathlib.Omega.{arith}
 use lib.ListN.{length, getD}
+use lib.Seq.{getD-append-add}
 use Rattle.paper.specs.Clauses.{every, from}
 
 -- ── Tests ──
@@ -73,7 +74,7 @@ length-from a (suc n) = ap suc (length-from (suc a) n)
 
 -- ── Elements by number ──
 
-pub getD-right {ℓ} : {A : Type ℓ} (xs ys : List A) (d : A) (i : ℕ) → length xs ≤ i → getD (xs ++ ys) i d ≡ getD ys (i - length xs) d
-getD-right [] ys d i h = ap (λ k. getD ys k d) (omega arith)
-getD-right (x ∷ xs) ys d zero h = absurd (omega arith)
-getD-right (x ∷ xs) ys d (suc i) h = getD-right xs ys d i (omega arith) ∙ ap (λ k. getD ys k d) (omega arith)
+pub getD-right {ℓ} : {A : Type ℓ} (xs ys : List A) (i : ℕ) (d : A) → length xs ≤ i → getD (xs ++ ys) i d ≡ getD ys (i - length xs) d
+getD-right xs ys i d h =
+    let e : length xs + (i - length xs) ≡ i = omega arith in
+    rw e at (getD-append-add xs ys (i - length xs) d)

@@ -6,10 +6,10 @@ use Prim.Native.Nat.{ℕ, _≤_}
 use native.Mathlib.Omega.{arith}
 use lib.Dec.{eqb}
 use Rattle.paper.specs.Clauses.{pick}
-use Rattle.paper.specs.Session.{Session}
+use Rattle.paper.specs.Session.{Session, tallyOf}
 use Rattle.paper.specs.Truth.{cost}
 use Rattle.paper.specs.Answers.{Refusal, numbers, clear, answerOr}
-use Rattle.paper.specs.Steps.{Step, opening, rule, wish, derive, core, judge, refusals, reply, effect, accepted, answer, next}
+use Rattle.paper.specs.Steps.{Step, opening, rule, wish, derive, core, judge, refusals, reply, effect, accepted, answer, next, outcome}
 use Rattle.paper.specs.Promises.{Decided, LowestFirst}
 use Rattle.paper.specs.declared.Answer.{Answer}
 use Rattle.paper.specs.declared.Answer.the-variants.{Best, Counted}
@@ -42,6 +42,16 @@ next-accepted s m e = ap (λ b. pick b (effect s m) s) e
 
 pub next-refused : (s : Session) (m : Step) → accepted s m ≡ false → next s m ≡ s
 next-refused s m e = ap (λ b. pick b (effect s m) s) e
+
+-- ── What a step hands back ──
+
+pub outcome-accepted : (s : Session) (m : Step) → accepted s m ≡ true
+    → outcome s m ≡ record { tally = tallyOf (effect s m); answer = reply s m }
+outcome-accepted s m e = rw (next-accepted s m e, answer-accepted s m e)
+
+pub outcome-refused : (s : Session) (m : Step) (a : Answer) → accepted s m ≡ false → answer s m ≡ a
+    → outcome s m ≡ record { tally = tallyOf s; answer = a }
+outcome-refused s m a e f = rw (next-refused s m e, f)
 
 pub decided : Decided
 decided s m = (

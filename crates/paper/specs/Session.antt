@@ -2,12 +2,13 @@
 -- never read the work, which is why a late one can shift nothing there.
 use mathlib.Core.Bool.{Bool, false, _||_, _&&_}
 use mathlib.Core.List.{List, [], _∷_, _++_}
-use Prim.Native.Nat.{ℕ, zero, suc, _+_, _-_}
+use Prim.Native.Nat.{ℕ, zero, suc, _+_, _-_, _/_, _%_}
 use lib.IntN.{ℤ, pos}
 use lib.Dec.{eqb, leb, ltb}
 use lib.ListN.{length, getD}
 use Rattle.paper.specs.Sizes.{narrow, firstWish, wishVariable, firstCounter, counterStart}
 use Rattle.paper.specs.declared.Width.{Width}
+use Rattle.paper.specs.declared.Tally.{Tally}
 use Rattle.paper.specs.Clauses.{Clause, variable, only, pick, from}
 use Rattle.paper.specs.Counters.{treeOf, variables, clauses, clauseAt}
 
@@ -45,6 +46,18 @@ noWork = record { derived = []; counters = []; used = λ v. 0; bound = 0 }
 -- Before its opening.
 abbrev pub fresh : Session
 fresh = record { sheet = blank 0; work = noWork }
+
+-- The counts of the four families and the bound form one small tally.
+abbrev pub tallyOf : Session → Tally
+tallyOf s =
+    record {
+      variables = s .sheet .variables;
+      rules = length (s .sheet .rules);
+      wishes = length (s .sheet .wishes);
+      derived = length (s .work .derived);
+      counters = length (s .work .counters);
+      bound = s .work .bound;
+    }
 
 -- ── Remaining weight ──
 
@@ -112,6 +125,10 @@ hintOf family first second =
     (pick (eqb family 1) (ofRule second)
     (pick (eqb family 2) (ofWish second)
     (pick (eqb family 4) (ofDerived second) ofNothing))))
+
+-- A hint's 8 bytes as one little-endian number: family 2 bytes, first 2, second 4.
+abbrev pub hintIn : ℕ → Hint
+hintIn word = hintOf (word % 65536) (word / 65536 % 65536) (word / 4294967296)
 
 abbrev pub noWish : Wish
 noWish = record { literals = []; weight = 0 }

@@ -8,11 +8,12 @@ use lib.ListN.{length, getD}
 use Rattle.paper.specs.Sizes.{Room, mostVariables, mostWeight, mostHints, ruleRoom, wishRoom, derivedRoom, wishVariable}
 use Rattle.paper.specs.declared.Width.{Width}
 use Rattle.paper.specs.Clauses.{Clause, Truth, variable, positive, clauseTrue, every, variableTwice, literalsIn, pick}
-use Rattle.paper.specs.Session.{Wish, Counter, Sheet, Work, Session, Hint, blank, noWork, spread, remaining, problemLiteral, namedLiteral, hintNamed, hintClause}
+use Rattle.paper.specs.Session.{Wish, Counter, Sheet, Work, Session, Hint, blank, noWork, tallyOf, spread, remaining, problemLiteral, namedLiteral, hintNamed, hintClause}
 use Rattle.paper.specs.Truth.{meets, cost}
 use Rattle.paper.specs.Derivation.{shows}
 use Rattle.paper.specs.Answers.{Refusal, refuse, clear, answerOr}
 use Rattle.paper.specs.declared.Answer.{Answer}
+use Rattle.paper.specs.declared.Outcome.{Outcome}
 use Rattle.paper.specs.declared.Answer.the-variants.{Opened, Rule, Wish as WishAdded, Derived, Core, Best, Counted, Broken}
 
 pub data Step : Type 0 where
@@ -161,3 +162,7 @@ answer s m = answerOr (refusals s m) (reply s m)
 -- After a refusal the session is unchanged.
 abbrev pub next : Session → Step → Session
 next s m = pick (accepted s m) (effect s m) s
+
+-- What a step hands back.
+abbrev pub outcome : Session → Step → Outcome
+outcome s m = record { tally = tallyOf (next s m); answer = answer s m }

@@ -1,12 +1,17 @@
 -- What is true of an arrangement, and what it costs.
 use mathlib.Core.Bool.{Bool, false, not, _&&_}
 use mathlib.Core.List.{List, [], _∷_}
-use Prim.Native.Nat.{ℕ, zero, suc, _+_, _-_}
+use Prim.Native.Nat.{ℕ, zero, suc, _+_, _-_, _/_, _%_, _^_}
+use lib.ListN.{getD}
 use lib.Dec.{leb, ltb, eqb}
 use Rattle.paper.specs.Sizes.{firstWish, firstCounter}
 use Rattle.paper.specs.Clauses.{Truth, clauseTrue, every, only, pick}
 use Rattle.paper.specs.Counters.{Tree, input, node, inputs, variables, treeOf}
 use Rattle.paper.specs.Session.{Wish, Counter, Sheet, Work}
+
+-- An arrangement in bytes: variable v is bit (v - 1) mod 8 of byte floor((v - 1) / 8).
+abbrev pub arranged : List ℕ → Truth
+arranged bytes v = eqb (getD bytes ((v - 1) / 8) 0 / 2 ^ ((v - 1) % 8) % 2) 1
 
 -- The arrangement meets all rules.
 abbrev pub meets : Sheet → Truth → Bool

@@ -1,22 +1,14 @@
 -- "One run, whole": its input, and the table that is proved of it.
-use mathlib.Core.Bool.{false}
 use mathlib.Core.List.{List, [], _∷_, map}
-use Prim.Native.Nat.{ℕ, zero, suc, _-_, _/_, _%_}
-use lib.Dec.{eqb}
+use Prim.Native.Nat.{ℕ, _-_}
 use lib.IntN.{pos, negsuc}
 use lib.ListN.{getD}
-use Rattle.paper.specs.Clauses.{Truth}
 use Rattle.paper.specs.Counters.{clausesOf}
 use Rattle.paper.specs.Session.{fresh, ofRule, ofWish, ofCounter}
+use Rattle.paper.specs.Truth.{arranged}
 use Rattle.paper.specs.Steps.{Step, opening, rule, wish, derive, core, judge}
 use Rattle.paper.specs.Answers.{give}
 use Rattle.paper.specs.Runs.{Line, linesFrom}
-
--- An arrangement in one byte: variable v is bit v - 1.
-abbrev pub bits : ℕ → Truth
-bits x zero = false
-bits x (suc zero) = eqb (x % 2) 1
-bits x (suc (suc v)) = bits (x / 2) (suc v)
 
 abbrev pub input : List Step
 input =
@@ -33,14 +25,14 @@ input =
     ∷ core 1
     ∷ derive (pos 4002 ∷ pos 2003 ∷ []) (ofWish 2 ∷ ofRule 1 ∷ ofRule 2 ∷ ofWish 0 ∷ ofWish 1 ∷ ofCounter 0 2 ∷ [])
     ∷ core 2
-    ∷ judge (bits 3)
+    ∷ judge (arranged (3 ∷ []))
     ∷ wish 5 (pos 3 ∷ [])
-    ∷ judge (bits 3)
+    ∷ judge (arranged (3 ∷ []))
     ∷ derive (pos 2003 ∷ pos 2004 ∷ []) (ofWish 2 ∷ ofWish 3 ∷ [])
     ∷ core 3
-    ∷ judge (bits 6)
+    ∷ judge (arranged (6 ∷ []))
     ∷ core 0
-    ∷ judge (bits 1)
+    ∷ judge (arranged (1 ∷ []))
     ∷ []
 
 -- Some lines of a run by their place, and a counter's clauses by the number of its inputs.

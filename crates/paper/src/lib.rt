@@ -10,6 +10,16 @@ pub struct Width {
     pub counters: u32,
 }
 
+// The counts of the four families and the bound, with n, which is 0 before the opening.
+pub struct Tally {
+    pub variables: u32,
+    pub rules: u32,
+    pub wishes: u32,
+    pub derived: u32,
+    pub counters: u32,
+    pub bound: u32,
+}
+
 // What a step answers; `specs/Answers.antt` gives the number and the two values for each case.
 pub enum Answer {
     // n
@@ -39,4 +49,10 @@ pub enum Reading {
     Forces(i32),
     AlreadyTrue,
     StillOpen,
+}
+
+// What a step hands back: the tally after it, and its answer.
+pub struct Outcome {
+    pub tally: Tally,
+    pub answer: Answer,
 }

@@ -1,0 +1,2 @@
+-- What each step leaves to its caller.
+pub mod Steps

@@ -1,0 +1,419 @@
+// The check of a derivation. The clause's literals are taken as false and the hints are read in their order; each that forces a
+// literal assigns it. The call stack is the trail: a function assigns, goes on and takes the value away again, so the value rooms
+// are left as they were, whatever they held.
+
+ghost use mathlib.Core.Path.{_≡_};
+ghost use mathlib.Core.Bool.{true};
+ghost use mathlib.Core.List.{List, [], _++_};
+ghost use Prim.Native.Nat.{ℕ, _+_, _≤_, _<_};
+ghost use lib.ListN.{length, drop, getD};
+ghost use Rattle.paper.specs.Sizes.{mostHints, wishRoom, counterStart};
+ghost use Rattle.paper.specs.Clauses.{Clause, every};
+ghost use Rattle.paper.specs.Session.{Session, tallyOf, namedLiteral, ofWish, ofCounter, hintIn, hintNamed, hintClause};
+ghost use Rattle.paper.specs.Derivation.{assume, misfit};
+ghost use Rattle.paper.specs.Runs.{Reached};
+ghost use Rattle.clauses.specs.Family.{Holds};
+ghost use Rattle.values.specs.Readings.{readIn};
+ghost use Rattle.rooms.specs.Held.{HeldIn, HeldCounters, Zeros, wishFamily};
+ghost use Rattle.derive.specs.Derivations.{HeldClauses, ForcesOpen, hinted, misfitIn, assumedIn};
+use paper::Reading;
+use paper::Tally;
+use paper::Width;
+
+const FIRST_WISH: u32 = 2001;
+
+const FIRST_COUNTER: usize = 4001;
+
+const MOST_WISHES: u32 = 512;
+
+const MOST_HINTS: usize = 256;
+
+// A clause that stands whole in its family's room.
+fn read_stored(
+    low: &[u8],
+    high: &[u8],
+    literals: &[i32],
+    ends: &[u32],
+    count: u32,
+    number: u32,
+) -> Reading
+    ensures forces { λ r. ⌜ ForcesOpen (now (low .entry) ++ now (high .entry)) r ⌝ }
+    ensures reads { λ r. ⌜ ((size most : ℕ) (family : List Clause)
+        → Holds size most (now (literals .entry)) (now (ends .entry)) count family
+        → r ≡ readIn (now (low .entry) ++ now (high .entry)) (getD family number [])) ⌝ }
+{
+    let clause = clauses::clause_of(literals, ends, count, number);
+    values::read_on(Reading::AllFalse, low, high, clause)
+}
+
+// A wish clause is the stretch of its literals and then its wish variable.
+fn read_wish(
+    low: &[u8],
+    high: &[u8],
+    literals: &[i32],
+    ends: &[u32],
+    count: u32,
+    number: u32,
+) -> Reading
+    ensures forces { λ r. ⌜ ForcesOpen (now (low .entry) ++ now (high .entry)) r ⌝ }
+    ensures reads { λ r. ⌜ ((s : Session)
+        → HeldIn wishRoom (now (literals .entry)) (now (ends .entry)) (wishFamily (s .sheet .wishes))
+        → count ≡ tallyOf s .wishes → hintNamed (s .sheet) (s .work) (ofWish number) ≡ true
+        → r ≡ readIn (now (low .entry) ++ now (high .entry)) (hintClause (s .sheet) (s .work) (ofWish number))) ⌝ }
+{
+    if MOST_WISHES <= number {
+        return Reading::StillOpen;
+    }
+    let clause = clauses::clause_of(literals, ends, count, number);
+    let reading = values::read_on(Reading::AllFalse, low, high, clause);
+    values::read_one(reading, low, high, (FIRST_WISH + number) as i32)
+}
+
+// Any two numbers of 32 bits will do: their product leaves room in 64.
+fn counter_start(width: Width, counter: u32) -> usize
+    ensures { λ r. ⌜ r ≡ counterStart width counter ⌝ }
+{
+    FIRST_COUNTER + (width.stride as usize) * (counter as usize)
+}
+
+// A clause of a counter is made where it is read: no counter's clauses are stored.
+fn read_counter(
+    low: &[u8],
+    high: &[u8],
+    inputs: &[i32],
+    ends: &[u32],
+    count: u32,
+    width: Width,
+    counter: u32,
+    number: u32,
+) -> Reading
+    ensures forces { λ r. ⌜ ForcesOpen (now (low .entry) ++ now (high .entry)) r ⌝ }
+    ensures reads { λ r. ⌜ ((s : Session) → Reached s → HeldCounters (now (inputs .entry)) (now (ends .entry)) s
+        → count ≡ tallyOf s .counters → width ≡ s .sheet .width → hintNamed (s .sheet) (s .work) (ofCounter counter number) ≡ true
+        → r ≡ readIn (now (low .entry) ++ now (high .entry)) (hintClause (s .sheet) (s .work) (ofCounter counter number))) ⌝ }
+{
+    let members = clauses::clause_of(inputs, ends, count, counter);
+    let start = counter_start(width, counter);
+    let clause = counters::counter_clause(members, start, number as usize);
+    let literals = clause.literals;
+    let length = clause.length;
+    values::read_on(Reading::AllFalse, low, high, &literals[..length])
+}
+
+// The clause that a hint names, under the present values. Hints that name nothing have got 19 before this is asked: a clause that is
+// absent would be read as an empty one, which ends a derivation.
+fn read_hint(
+    low: &[u8],
+    high: &[u8],
+    rules: &[i32],
+    rule_ends: &[u32],
+    wishes: &[i32],
+    wish_ends: &[u32],
+    inputs: &[i32],
+    counter_ends: &[u32],
+    derived: &[i32],
+    derived_ends: &[u32],
+    width: Width,
+    tally: Tally,
+    hint: u64,
+) -> Reading
+    ensures forces { λ r. ⌜ ForcesOpen (now (low .entry) ++ now (high .entry)) r ⌝ }
+    ensures reads { λ r. ⌜ ((s : Session) → Reached s
+        → HeldClauses (record {
+          rules = now (rules .entry);
+          ruleEnds = now («rule_ends» .entry);
+          wishes = now (wishes .entry);
+          wishEnds = now («wish_ends» .entry);
+          inputs = now (inputs .entry);
+          counterEnds = now («counter_ends» .entry);
+          derived = now (derived .entry);
+          derivedEnds = now («derived_ends» .entry);
+        }) s
+        → width ≡ s .sheet .width → tally ≡ tallyOf s → hintNamed (s .sheet) (s .work) (hintIn hint) ≡ true
+        → r ≡ readIn (now (low .entry) ++ now (high .entry)) (hintClause (s .sheet) (s .work) (hintIn hint))) ⌝ }
+{
+    let parts = names::parts_of(hint);
+    let family = parts.family;
+    if family == 3 {
+        return read_counter(
+            low,
+            high,
+            inputs,
+            counter_ends,
+            tally.counters,
+            width,
+            parts.first,
+            parts.second,
+        );
+    }
+    if family == 2 {
+        return read_wish(low, high, wishes, wish_ends, tally.wishes, parts.second);
+    }
+    if family == 1 {
+        return read_stored(low, high, rules, rule_ends, tally.rules, parts.second);
+    }
+    if family == 4 {
+        return read_stored(
+            low,
+            high,
+            derived,
+            derived_ends,
+            tally.derived,
+            parts.second,
+        );
+    }
+    Reading::StillOpen
+}
+
+// The hints from place i on: 0 where they end the derivation, else the place from 1 of the first that does not fit.
+fn follow_hints(
+    low: &mut [u8],
+    high: &mut [u8],
+    rules: &[i32],
+    rule_ends: &[u32],
+    wishes: &[i32],
+    wish_ends: &[u32],
+    inputs: &[i32],
+    counter_ends: &[u32],
+    derived: &[i32],
+    derived_ends: &[u32],
+    width: Width,
+    tally: Tally,
+    hints: &[u64],
+    i: usize,
+) -> usize
+    requires { ⌜ i ≤ length (now hints) ⌝ }
+    ensures kept { λ _. ⌜ (now (low .exit) ≡ now (low .entry)) × (now (high .exit) ≡ now (high .entry)) ⌝ }
+    ensures answer { λ r. ⌜ ((s : Session) → Reached s
+        → HeldClauses (record {
+          rules = now (rules .entry);
+          ruleEnds = now («rule_ends» .entry);
+          wishes = now (wishes .entry);
+          wishEnds = now («wish_ends» .entry);
+          inputs = now (inputs .entry);
+          counterEnds = now («counter_ends» .entry);
+          derived = now (derived .entry);
+          derivedEnds = now («derived_ends» .entry);
+        }) s
+        → width ≡ s .sheet .width → tally ≡ tallyOf s
+        → every (λ word. hintNamed (s .sheet) (s .work) (hintIn word)) (now (hints .entry)) ≡ true
+        → r ≡ misfitIn (now (low .entry) ++ now (high .entry)) (i + 1) (hinted s (drop i (now (hints .entry))))) ⌝ }
+{
+    let place = i + 1;
+    if hints.len() <= i {
+        return place;
+    }
+    let hint = hints[i];
+    let reading = read_hint(
+        low,
+        high,
+        rules,
+        rule_ends,
+        wishes,
+        wish_ends,
+        inputs,
+        counter_ends,
+        derived,
+        derived_ends,
+        width,
+        tally,
+        hint,
+    );
+    match reading {
+        Reading::AllFalse => {
+            if place == hints.len() {
+                return 0;
+            }
+            return place;
+        }
+        Reading::Forces(literal) => {
+            values::assign(low, high, literal, true);
+            let found = follow_hints(
+                low,
+                high,
+                rules,
+                rule_ends,
+                wishes,
+                wish_ends,
+                inputs,
+                counter_ends,
+                derived,
+                derived_ends,
+                width,
+                tally,
+                hints,
+                place,
+            );
+            values::unassign(low, high, literal);
+            return found;
+        }
+        Reading::AlreadyTrue => {
+            return place;
+        }
+        Reading::StillOpen => {
+            return place;
+        }
+    }
+}
+
+// The clause's literals from place j on are taken as false, where they have no value yet, and then the hints are followed.
+fn assume_then(
+    low: &mut [u8],
+    high: &mut [u8],
+    rules: &[i32],
+    rule_ends: &[u32],
+    wishes: &[i32],
+    wish_ends: &[u32],
+    inputs: &[i32],
+    counter_ends: &[u32],
+    derived: &[i32],
+    derived_ends: &[u32],
+    width: Width,
+    tally: Tally,
+    clause: &[i32],
+    hints: &[u64],
+    j: usize,
+) -> usize
+    requires { ⌜ j ≤ length (now clause) ⌝ }
+    ensures kept { λ _. ⌜ (now (low .exit) ≡ now (low .entry)) × (now (high .exit) ≡ now (high .entry)) ⌝ }
+    ensures answer { λ r. ⌜ ((s : Session) → Reached s
+        → HeldClauses (record {
+          rules = now (rules .entry);
+          ruleEnds = now («rule_ends» .entry);
+          wishes = now (wishes .entry);
+          wishEnds = now («wish_ends» .entry);
+          inputs = now (inputs .entry);
+          counterEnds = now («counter_ends» .entry);
+          derived = now (derived .entry);
+          derivedEnds = now («derived_ends» .entry);
+        }) s
+        → width ≡ s .sheet .width → tally ≡ tallyOf s
+        → every (λ word. hintNamed (s .sheet) (s .work) (hintIn word)) (now (hints .entry)) ≡ true
+        → r ≡ misfitIn (assumedIn (now (low .entry) ++ now (high .entry)) (drop j (now (clause .entry)))) 1
+        (hinted s (now (hints .entry)))) ⌝ }
+{
+    if clause.len() <= j {
+        return follow_hints(
+            low,
+            high,
+            rules,
+            rule_ends,
+            wishes,
+            wish_ends,
+            inputs,
+            counter_ends,
+            derived,
+            derived_ends,
+            width,
+            tally,
+            hints,
+            0,
+        );
+    }
+    let literal = clause[j];
+    let next = j + 1;
+    let known = values::value(low, high, literal);
+    if known != 0 {
+        return assume_then(
+            low,
+            high,
+            rules,
+            rule_ends,
+            wishes,
+            wish_ends,
+            inputs,
+            counter_ends,
+            derived,
+            derived_ends,
+            width,
+            tally,
+            clause,
+            hints,
+            next,
+        );
+    }
+    values::assign(low, high, literal, false);
+    let place = assume_then(
+        low,
+        high,
+        rules,
+        rule_ends,
+        wishes,
+        wish_ends,
+        inputs,
+        counter_ends,
+        derived,
+        derived_ends,
+        width,
+        tally,
+        clause,
+        hints,
+        next,
+    );
+    values::unassign(low, high, literal);
+    place
+}
+
+// 0 where the hints show the clause, else the place from 1 of the first that does not fit. Every hint and every literal is a call
+// deeper, so more of them than the sizes allow, which 16 or 19 has refused, are not followed.
+pub fn misfit_of(
+    low: &mut [u8],
+    high: &mut [u8],
+    rules: &[i32],
+    rule_ends: &[u32],
+    wishes: &[i32],
+    wish_ends: &[u32],
+    inputs: &[i32],
+    counter_ends: &[u32],
+    derived: &[i32],
+    derived_ends: &[u32],
+    width: Width,
+    tally: Tally,
+    clause: &[i32],
+    hints: &[u64],
+) -> usize
+    ensures kept { λ _. ⌜ (now (low .exit) ≡ now (low .entry)) × (now (high .exit) ≡ now (high .entry)) ⌝ }
+    ensures answer { λ r. ⌜ ((s : Session) → Reached s
+        → HeldClauses (record {
+          rules = now (rules .entry);
+          ruleEnds = now («rule_ends» .entry);
+          wishes = now (wishes .entry);
+          wishEnds = now («wish_ends» .entry);
+          inputs = now (inputs .entry);
+          counterEnds = now («counter_ends» .entry);
+          derived = now (derived .entry);
+          derivedEnds = now («derived_ends» .entry);
+        }) s
+        → width ≡ s .sheet .width → tally ≡ tallyOf s
+        → every (λ word. hintNamed (s .sheet) (s .work) (hintIn word)) (now (hints .entry)) ≡ true
+        → every (namedLiteral (s .sheet) (s .work)) (now (clause .entry)) ≡ true
+        → Zeros (s .sheet .width) (now (low .entry) ++ now (high .entry))
+        → length (now (hints .entry)) ≤ mostHints → length (now (clause .entry)) ≤ width .literals
+        → r ≡ misfit (assume (now (clause .entry))) 1 (hinted s (now (hints .entry)))) ⌝ }
+    ensures long { λ r. ⌜ ((mostHints < length (now (hints .entry)) → r ≡ 1)
+        × (width .literals < length (now (clause .entry)) → r ≡ 1)) ⌝ }
+{
+    if MOST_HINTS < hints.len() {
+        return 1;
+    }
+    if (width.literals as usize) < clause.len() {
+        return 1;
+    }
+    assume_then(
+        low,
+        high,
+        rules,
+        rule_ends,
+        wishes,
+        wish_ends,
+        inputs,
+        counter_ends,
+        derived,
+        derived_ends,
+        width,
+        tally,
+        clause,
+        hints,
+        0,
+    )
+}

@@ -1,0 +1,5 @@
+-- Laws that the proofs of the steps share: what a step hands back for each way that it can go, a family with one clause more, and
+-- all rooms together.
+pub mod Outcomes
+pub mod Families
+pub mod Whole

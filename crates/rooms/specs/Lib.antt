@@ -1,0 +1,2 @@
+-- What the contracts of the steps cite besides the paper.
+pub mod Held

@@ -1,0 +1,1 @@
+// What lent rooms hold of a session; there is no code here, only what contracts cite.

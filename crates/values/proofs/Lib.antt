@@ -1,0 +1,4 @@
+-- The laws of this crate, for its functions and for those who call them.
+pub mod Values
+pub mod Readings
+pub mod Marks

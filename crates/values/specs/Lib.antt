@@ -1,0 +1,4 @@
+-- What the contracts of this crate cite besides the paper.
+pub mod Values
+pub mod Readings
+pub mod Marks
