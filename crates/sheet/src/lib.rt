@@ -27,8 +27,8 @@ pub fn width_of(_tally: Tally) -> Width
     }
 }
 
-// A refusal by its number, with the tally as it was.
-fn refused(tally: Tally, number: u32) -> Outcome
+// A refusal by its number, with the tally as it was. The steps that write the work refuse by it too.
+pub fn refused(tally: Tally, number: u32) -> Outcome
     ensures { λ r. ⌜ r ≡ record { tally = tally; answer = Answer.Refused number } ⌝ }
 {
     Outcome {

@@ -164,7 +164,8 @@ fn gather(width: Width, inputs: &[i32], broken: &[u8], counts: &[u8], truths: &m
     }
 }
 
-// How many inputs are true. No width lets a counter have more of them than a byte counts; for more, the answer is 0.
+// How many inputs are true, in a byte. A counter of this opening's width has 64 at most; for more than a byte counts, the answer
+// is 0.
 fn true_count(width: Width, inputs: &[i32], broken: &[u8], counts: &[u8]) -> u8
     requires { ⌜ 0 < width .stride ⌝ }
     ensures { λ r. ⌜ (length (now (inputs .entry)) ≤ 255

@@ -15,16 +15,6 @@ use paper::Answer;
 use paper::Outcome;
 use paper::Tally;
 
-// A refusal by its number, with the tally as it was.
-fn refused(tally: Tally, number: u32) -> Outcome
-    ensures { λ r. ⌜ r ≡ record { tally = tally; answer = Answer.Refused number } ⌝ }
-{
-    Outcome {
-        tally: tally,
-        answer: Answer::Refused(number),
-    }
-}
-
 // The sum where it fits; a reached session's bound always does.
 fn sum_of(bound: u32, weight: u32) -> u32
     ensures { λ r. ⌜ (bound + weight < 2 ^ 32 → r ≡ bound + weight) ⌝ }
@@ -123,18 +113,18 @@ pub fn derive(
         (next s (deriveStep (now (clause .entry)) (map hintIn (now (hints .entry)))))) ⌝ }
 {
     if tally.variables == 0 {
-        return refused(tally, 12);
+        return sheet::refused(tally, 12);
     }
     let width = sheet::width_of(tally);
     let number = names::named_refusal(width, tally, counter_ends, clause, low, high);
     if number != 0 {
-        return refused(tally, number);
+        return sheet::refused(tally, number);
     }
     if 256 < hints.len() {
-        return refused(tally, 19);
+        return sheet::refused(tally, 19);
     }
     if !names::all_hints_named(tally, counter_ends, hints) {
-        return refused(tally, 19);
+        return sheet::refused(tally, 19);
     }
     let place = derive::misfit_of(
         low,
@@ -153,17 +143,17 @@ pub fn derive(
         hints,
     );
     if place != 0 {
-        return refused(tally, 20);
+        return sheet::refused(tally, 20);
     }
     let count = tally.derived;
     if 4095 < count {
-        return refused(tally, 23);
+        return sheet::refused(tally, 23);
     }
     if 65535 < clause.len() {
-        return refused(tally, 23);
+        return sheet::refused(tally, 23);
     }
     if !clauses::append(derived, derived_ends, count, clause) {
-        return refused(tally, 23);
+        return sheet::refused(tally, 23);
     }
     derived_more(tally, count + 1, clause.len() as u32)
 }
@@ -186,16 +176,16 @@ pub fn core(
         × HeldWeights (now (left .exit)) (now (outputs .exit)) (next s (coreStep number))) ⌝ }
 {
     if tally.variables == 0 {
-        return refused(tally, 12);
+        return sheet::refused(tally, 12);
     }
     if tally.derived <= number {
-        return refused(tally, 21);
+        return sheet::refused(tally, 21);
     }
     let width = sheet::width_of(tally);
     let members = clauses::clause_of(derived, derived_ends, tally.derived, number);
     let weight = weights::least(width, left, outputs, members);
     if weight == 0 {
-        return refused(tally, 22);
+        return sheet::refused(tally, 22);
     }
     let bound = sum_of(tally.bound, weight);
     let count = tally.counters;
@@ -204,13 +194,13 @@ pub fn core(
         return relaxed(tally, count, bound, weight);
     }
     if width.counters <= count {
-        return refused(tally, 23);
+        return sheet::refused(tally, 23);
     }
     if 65535 < members.len() {
-        return refused(tally, 23);
+        return sheet::refused(tally, 23);
     }
     if !clauses::append(inputs, counter_ends, count, members) {
-        return refused(tally, 23);
+        return sheet::refused(tally, 23);
     }
     weights::lower(width, left, outputs, members, weight);
     weights::raise(width, outputs, count, members.len() as u32, weight);
