@@ -1,7 +1,17 @@
 # The project's commands; README.md says what they are for.
-.PHONY: worked independent test
+.PHONY: worked independent test corpus fuzz bench
 
 tally = independent/build/tally
+
+# The verified programs, as rt builds them, and what goes before a run of one;
+# on a machine that is not x86-64 an empty RUN stands for the kit's emulator.
+RUNNER = target/bin/runner
+CORPUS = target/bin/corpus
+RUN =
+
+# How many seeds are compared and the first one; without one the clock chooses.
+SEEDS = 10000
+FIRST =
 
 # The worked run of the description, each answer line with its meaning beside it.
 worked: independent
@@ -13,4 +23,16 @@ independent:
 # The independent program first, since it takes seconds; then everything is proved from nothing.
 test: independent
 	@$(MAKE) --silent --no-print-directory -C independent test
+	@sh tools/stored.sh check $(tally)
 	@rt ci
+
+# Writes again what the verified programs read and what they have to print.
+corpus: independent
+	@sh tools/stored.sh write $(tally)
+
+# The verified programs against the independent one, on fresh seeds and in time.
+fuzz: independent
+	@RUN='$(RUN)' sh tools/fuzz.sh $(tally) $(RUNNER) $(CORPUS) $(SEEDS) $(FIRST)
+
+bench: independent
+	@RUN='$(RUN)' sh tools/bench.sh $(tally) $(RUNNER)

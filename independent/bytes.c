@@ -2,7 +2,6 @@
  * not copy themselves over and over. */
 #include "bytes.h"
 
-#include <stdio.h>
 #include <stdlib.h>
 #include <string.h>
 
@@ -49,6 +48,12 @@ void put_4(struct bytes *bytes, uint32_t value)
     put_2(bytes, value >> 16);
 }
 
+void set_4(struct bytes *bytes, size_t place, uint32_t value)
+{
+    for (uint32_t byte = 0; byte < 4; byte++)
+        bytes->data[place + byte] = (uint8_t)(value >> (8 * byte) & 0xff);
+}
+
 void put_all(struct bytes *bytes, const void *data, size_t length)
 {
     if (length == 0)
@@ -56,6 +61,17 @@ void put_all(struct bytes *bytes, const void *data, size_t length)
     make_room(bytes, length);
     memcpy(bytes->data + bytes->length, data, length);
     bytes->length += length;
+}
+
+void put_file(struct bytes *bytes, FILE *file)
+{
+    size_t got;
+
+    do {
+        make_room(bytes, BLOCK_BYTES);
+        got = read_all(file, bytes->data + bytes->length, BLOCK_BYTES);
+        bytes->length += got;
+    } while (got == BLOCK_BYTES);
 }
 
 void put_string(struct bytes *bytes, const char *text)
@@ -82,9 +98,7 @@ size_t record_begin(struct bytes *bytes, uint32_t kind)
 
 void record_end(struct bytes *bytes, size_t start)
 {
-    size_t length = bytes->length - start - LENGTH_BYTES;
-    for (size_t place = 0; place < LENGTH_BYTES; place++)
-        bytes->data[start + place] = (uint8_t)(length >> (8 * place) & 0xff);
+    set_4(bytes, start, (uint32_t)(bytes->length - start - LENGTH_BYTES));
 }
 
 static void put_literals(struct bytes *bytes, const int32_t *literals, uint32_t count)

@@ -5,6 +5,7 @@
 
 #include <stddef.h>
 #include <stdint.h>
+#include <stdio.h>
 
 #include "session.h"
 
@@ -18,7 +19,11 @@ void bytes_free(struct bytes *bytes);
 void put_1(struct bytes *bytes, uint32_t value);
 void put_2(struct bytes *bytes, uint32_t value);
 void put_4(struct bytes *bytes, uint32_t value);
+/* Writes over 4 bytes that have been put before. */
+void set_4(struct bytes *bytes, size_t place, uint32_t value);
 void put_all(struct bytes *bytes, const void *data, size_t length);
+/* All that a file still has. */
+void put_file(struct bytes *bytes, FILE *file);
 void put_string(struct bytes *bytes, const char *text);
 void put_decimal(struct bytes *bytes, int64_t number);
 

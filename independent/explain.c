@@ -1,12 +1,10 @@
-/* The telling of a run. The session is asked before a record is answered
- * only where the words need it; the answer itself always comes from the same
- * step as in a plain run. */
+/* The telling of a run: words for an answered record, from its bytes and the
+ * session behind it. The answers are those of a plain run. */
 #include "explain.h"
 
 #include <string.h>
 
 #include "counter.h"
-#include "records.h"
 #include "script.h"
 
 enum { COLUMN = 24, ARRANGEMENT_SHOWN = 64 };
@@ -268,10 +266,10 @@ static void say_meaning(struct sink *sink, const struct session *session,
     say_refused(sink, session, kind, &parts, answer.number);
 }
 
-static void say_answer(struct sink *sink, uint64_t place, uint32_t kind, struct answer answer)
+static void say_line(struct sink *sink, const struct answered *answered)
 {
     char text[LINE_BYTES];
-    size_t length = line_text(text, place, kind, answer);
+    size_t length = line_text(text, answered);
 
     sink_bytes(sink, text, length);
     do
@@ -285,35 +283,25 @@ static const char *broken_frame_words(struct source *source)
     size_t count = source_rest(source, &bytes);
 
     if (count < LENGTH_BYTES)
-        return "the run ends: the input ends inside a record's length\n";
+        return "the run ends: the input ends inside a record's length";
     uint32_t said = get_4(bytes);
     if (said < RECORD_LEAST || said > RECORD_GREATEST)
-        return "the run ends: the record's length is not 2 to 4096\n";
-    return "the run ends: the input ends inside a record\n";
+        return "the run ends: the record's length is not 2 to 4096";
+    return "the run ends: the input ends inside a record";
 }
 
-void explain(FILE *in, FILE *out)
+static void tell_meaning(struct sink *sink, const struct answered *answered)
 {
-    static struct session session;
-    static struct source source;
-    static struct sink sink;
-    const uint8_t *record;
-    uint32_t length;
-    uint64_t place = 0;
-    enum frame frame;
+    say_line(sink, answered);
+    if (answered->answer.number == BAD_FRAME)
+        sink_text(sink, broken_frame_words(answered->source));
+    else
+        say_meaning(sink, answered->session, answered->record, answered->length,
+                    answered->answer);
+    sink_text(sink, "\n");
+}
 
-    session_clear(&session);
-    source_begin(&source, in);
-    sink_begin(&sink, out);
-    while ((frame = source_next(&source, &record, &length)) == FRAME_RECORD) {
-        struct answer answer = answer_record(&session, record, length);
-        say_answer(&sink, ++place, get_2(record), answer);
-        say_meaning(&sink, &session, record, length, answer);
-        sink_text(&sink, "\n");
-    }
-    if (frame == FRAME_BROKEN) {
-        say_answer(&sink, ++place, 0, refuse(BAD_FRAME));
-        sink_text(&sink, broken_frame_words(&source));
-    }
-    sink_flush(&sink);
+void explain_records(struct source *source, struct sink *sink)
+{
+    tell_records(source, sink, tell_meaning);
 }

@@ -34,7 +34,9 @@ static const struct {
     { "damaged", generate_damaged, 10 },
     { "scrambled", generate_scrambled, 4 },
     { "noise", generate_noise, 3 },
-    { "heavy", generate_heavy, 0 }
+    { "heavy-rules", generate_heavy_rules, 0 },
+    { "heavy-judgings", generate_heavy_judgings, 0 },
+    { "heavy-derivations", generate_heavy_derivations, 0 }
 };
 
 enum { KIND_COUNT = sizeof kinds / sizeof *kinds };

@@ -17,6 +17,14 @@ bool generate_text(uint64_t seed, const char *kind, struct bytes *out);
 void list_records_kinds(FILE *file, const char *before);
 void list_text_kinds(FILE *file, const char *before);
 
+/* A rule that one of m things is needed and a price for each of them; the
+ * core over all the prices makes a counter over m inputs. Returns its number. */
+uint32_t make_counter(struct run *run, uint32_t inputs, bool even_weights);
+
+/* Shows that chosen inputs of a counter together make a root output true.
+ * Asking for one output more must be refused. */
+void count_chosen(struct run *run, uint32_t counter);
+
 /* Shows the first output of a counter's root, true wherever the rules are met,
  * and tries it as a core: it has no weight and must be refused. */
 void try_first_output(struct run *run, uint32_t counter);
@@ -47,6 +55,8 @@ void generate_mixed(struct run *run);
 void generate_damaged(struct run *run);
 void generate_scrambled(struct run *run);
 void generate_noise(struct run *run);
-void generate_heavy(struct run *run);
+void generate_heavy_rules(struct run *run);
+void generate_heavy_judgings(struct run *run);
+void generate_heavy_derivations(struct run *run);
 
 #endif

@@ -5,9 +5,7 @@
 
 #include "counter.h"
 
-/* A rule that one of m things is needed and a price for each of them; the
- * core over all the prices makes a counter over m inputs. */
-static uint32_t make_counter(struct run *run, uint32_t inputs, bool even_weights)
+uint32_t make_counter(struct run *run, uint32_t inputs, bool even_weights)
 {
     int32_t literals[COUNTER_INPUTS];
     struct hint hints[COUNTER_INPUTS + 1];
@@ -78,9 +76,7 @@ static uint32_t climb_part(struct climb *climb, uint32_t first, uint32_t count, 
     return from_left + from_right;
 }
 
-/* Shows that the chosen inputs together make a root output true. Asking for
- * one output more must be refused. */
-static void count_chosen(struct run *run, uint32_t counter)
+void count_chosen(struct run *run, uint32_t counter)
 {
     struct stretch inputs = counter_inputs(&run->session, counter);
     struct climb climb = { .counter = counter, .chosen = draw(&run->chance) };

@@ -1,6 +1,5 @@
 /* Runs without a plan: tiny ones, mixtures of near-sound records, damaged
- * sound runs, framed nonsense, plain random bytes, and one long run for
- * measuring time. */
+ * sound runs, framed nonsense, and plain random bytes. */
 #include "generate.h"
 
 #include <string.h>
@@ -184,28 +183,5 @@ void generate_damaged(struct run *run)
         run->out->length = start;
         damage(&run->chance, &sound, run->out);
         bytes_free(&sound);
-    }
-}
-
-enum { HEAVY_DERIVATIONS = 60000, HEAVY_LINKS = 1900 };
-
-/* Long chains of implications; when the derived room is full the work of
- * showing them is still done before they are refused. */
-void generate_heavy(struct run *run)
-{
-    static struct hint hints[DERIVATION_HINTS];
-
-    make_open(run, PROBLEM_VARIABLES);
-    for (int32_t link = 1; link < HEAVY_LINKS; link++)
-        make_rule(run, (int32_t[]){ -link, link + 1 }, 2);
-    for (int32_t wish = 1; wish <= WISH_ROOM; wish++)
-        make_wish(run, 3, (int32_t[]){ -wish, wish + 1, wish + 2 }, 3);
-    for (uint32_t time = 0; time < HEAVY_DERIVATIONS; time++) {
-        uint32_t length = draw_between(&run->chance, 1, DERIVATION_HINTS);
-        uint32_t first = draw_between(&run->chance, 1, HEAVY_LINKS - length);
-        int32_t ends[2] = { -(int32_t)first, (int32_t)(first + length) };
-        for (uint32_t place = 0; place < length; place++)
-            hints[place] = rule_hint(first - 1 + place);
-        make_shown(run, ends, 2, hints, length);
     }
 }

@@ -1,9 +1,12 @@
 /* The command line: runs records, reads sheets, assembles and disassembles
- * scripts, tells a run in words, and generates runs and texts by seed. */
+ * scripts, tells a run in words, generates runs and texts by seed, and writes,
+ * replays and opens containers of runs. */
 #include <inttypes.h>
 #include <stdlib.h>
 #include <string.h>
 
+#include "container.h"
+#include "corpus.h"
 #include "explain.h"
 #include "generate.h"
 #include "records.h"
@@ -25,7 +28,11 @@ static int usage(const char *reason)
             "       tally disassemble < records     records to script\n"
             "       tally generate SEED [KIND]      a run of records\n"
             "       tally generate-text SEED [KIND] an older WCNF text\n"
-            "       tally names                     the kinds of both generators\n");
+            "       tally names                     the kinds of both generators\n"
+            "       tally container SEED COUNT      a container of runs, one for each seed\n"
+            "       tally corpus < worked           the corpus, a container\n"
+            "       tally replay < container        answer lines, run by run\n"
+            "       tally take NUMBER < container   the records of one run, counted from 1\n");
     return USAGE_EXIT;
 }
 
@@ -54,20 +61,29 @@ static void write_output(const void *bytes, size_t length)
     sink_flush(&sink);
 }
 
+static int run_input(void (*run)(struct source *, struct sink *))
+{
+    static struct source source;
+    static struct sink sink;
+    source_begin(&source, stdin);
+    sink_begin(&sink, stdout);
+    run(&source, &sink);
+    sink_flush(&sink);
+    return 0;
+}
+
 static int run_command(int count, char **words)
 {
     (void)count;
     (void)words;
-    run_records(stdin, stdout);
-    return 0;
+    return run_input(run_records);
 }
 
 static int explain_command(int count, char **words)
 {
     (void)count;
     (void)words;
-    explain(stdin, stdout);
-    return 0;
+    return run_input(explain_records);
 }
 
 static int assemble_command(int count, char **words)
@@ -179,6 +195,75 @@ static int generate_text_command(int count, char **words)
     return generate_with(generate_text, count, words);
 }
 
+static int container_command(int count, char **words)
+{
+    struct bytes container = { NULL, 0, 0 };
+    uint64_t first;
+    uint64_t runs;
+
+    (void)count;
+    if (!argument_number(words[0], UINT64_MAX, &first) ||
+        !argument_number(words[1], UINT64_MAX, &runs))
+        return usage("SEED and COUNT must be numbers from 0 to 18446744073709551615");
+    put_runs(&container, first, runs);
+    write_output(container.data, container.length);
+    bytes_free(&container);
+    return 0;
+}
+
+static int corpus_command(int count, char **words)
+{
+    struct bytes worked = { NULL, 0, 0 };
+    struct bytes container = { NULL, 0, 0 };
+
+    (void)count;
+    (void)words;
+    put_file(&worked, stdin);
+    put_corpus(&container, &worked);
+    write_output(container.data, container.length);
+    bytes_free(&worked);
+    bytes_free(&container);
+    return 0;
+}
+
+static int replay_command(int count, char **words)
+{
+    static struct sink sink;
+    struct bytes container = { NULL, 0, 0 };
+
+    (void)count;
+    (void)words;
+    put_file(&container, stdin);
+    sink_begin(&sink, stdout);
+    replay(&container, &sink);
+    sink_flush(&sink);
+    bytes_free(&container);
+    return 0;
+}
+
+static int take_command(int count, char **words)
+{
+    struct bytes container = { NULL, 0, 0 };
+    const uint8_t *run = NULL;
+    size_t length = 0;
+    size_t place = 0;
+    uint64_t wanted;
+    uint64_t seen = 0;
+
+    (void)count;
+    if (!argument_number(words[0], UINT64_MAX, &wanted) || wanted == 0)
+        return usage("NUMBER must be a number from 1 on");
+    put_file(&container, stdin);
+    while (seen < wanted && next_run(&container, &place, &run, &length))
+        seen++;
+    if (seen == wanted)
+        write_output(run, length);
+    else
+        fprintf(stderr, "tally: the container has only %" PRIu64 " runs\n", seen);
+    bytes_free(&container);
+    return seen == wanted ? 0 : 1;
+}
+
 static const struct {
     const char *name;
     int least;
@@ -193,7 +278,11 @@ static const struct {
     { "disassemble", 0, 0, disassemble_command },
     { "generate", 1, 2, generate_command },
     { "generate-text", 1, 2, generate_text_command },
-    { "names", 0, 0, names_command }
+    { "names", 0, 0, names_command },
+    { "container", 2, 2, container_command },
+    { "corpus", 0, 0, corpus_command },
+    { "replay", 0, 0, replay_command },
+    { "take", 1, 1, take_command }
 };
 
 int main(int count, char **words)

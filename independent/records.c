@@ -97,47 +97,30 @@ struct answer answer_record(struct session *session, const uint8_t *bytes, uint3
     }
 }
 
-size_t line_text(char *start, uint64_t place, uint32_t kind, struct answer answer)
+size_t line_text(char *start, const struct answered *answered)
 {
     char *room = start;
-    room += put_digits(room, place);
+    room += put_digits(room, answered->place);
     *room++ = ' ';
-    room += put_digits(room, kind);
+    room += put_digits(room, answered->kind);
     *room++ = ' ';
-    room += put_digits(room, answer.number);
+    room += put_digits(room, answered->answer.number);
     *room++ = ' ';
-    room += put_digits(room, answer.first);
+    room += put_digits(room, answered->answer.first);
     *room++ = ' ';
-    room += put_digits(room, answer.second);
+    room += put_digits(room, answered->answer.second);
     return (size_t)(room - start);
 }
 
-static void put_line(struct sink *sink, uint64_t place, uint32_t kind, struct answer answer)
+static void tell_line(struct sink *sink, const struct answered *answered)
 {
     char *room = sink_room(sink, LINE_BYTES);
-    size_t length = line_text(room, place, kind, answer);
+    size_t length = line_text(room, answered);
     room[length] = '\n';
     sink->used += length + 1;
 }
 
-void run_records(FILE *in, FILE *out)
+void run_records(struct source *source, struct sink *sink)
 {
-    static struct session session;
-    static struct source source;
-    static struct sink sink;
-    const uint8_t *record;
-    uint32_t length;
-    uint64_t place = 0;
-    enum frame frame;
-
-    session_clear(&session);
-    source_begin(&source, in);
-    sink_begin(&sink, out);
-    while ((frame = source_next(&source, &record, &length)) == FRAME_RECORD) {
-        struct answer answer = answer_record(&session, record, length);
-        put_line(&sink, ++place, get_2(record), answer);
-    }
-    if (frame == FRAME_BROKEN)
-        put_line(&sink, ++place, 0, refuse(BAD_FRAME));
-    sink_flush(&sink);
+    tell_records(source, sink, tell_line);
 }

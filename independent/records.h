@@ -39,12 +39,51 @@ bool arrangement_has_form(uint32_t variables, const uint8_t *payload, uint32_t l
 /* Answers a framed record, `bytes` from its kind on. */
 struct answer answer_record(struct session *session, const uint8_t *bytes, uint32_t length);
 
+/* A record and its answer. With 10 there is no record: its bytes, as far as
+ * they are there, are the source's rest. */
+struct answered {
+    uint64_t place; /* from 1 */
+    uint32_t kind;
+    uint32_t length;
+    const uint8_t *record;
+    struct answer answer;
+    const struct session *session; /* as it is behind the answer */
+    struct source *source;
+};
+
 /* The most bytes a line can take, and the writing of one without its end;
  * returns how many bytes were written. */
 enum { LINE_BYTES = 80 };
-size_t line_text(char *start, uint64_t place, uint32_t kind, struct answer answer);
+size_t line_text(char *start, const struct answered *answered);
 
-/* Reads records from a file and prints an answer line for each. */
-void run_records(FILE *in, FILE *out);
+/* Writes what is to be said of an answered record. */
+typedef void teller(struct sink *sink, const struct answered *answered);
+
+/* Answers the records of a source, from a fresh session to the source's end
+ * or a broken frame, and has each told. It stands here in full so that a plain
+ * run, whose speed is measured, is compiled with its own way of telling. */
+static inline void tell_records(struct source *source, struct sink *sink, teller *tell)
+{
+    static struct session session;
+    struct answered now = { .session = &session, .source = source };
+    enum frame frame;
+
+    session_clear(&session);
+    while ((frame = source_next(source, &now.record, &now.length)) == FRAME_RECORD) {
+        now.place++;
+        now.kind = get_2(now.record);
+        now.answer = answer_record(&session, now.record, now.length);
+        tell(sink, &now);
+    }
+    if (frame == FRAME_BROKEN) {
+        now.place++;
+        now.kind = 0;
+        now.answer = refuse(BAD_FRAME);
+        tell(sink, &now);
+    }
+}
+
+/* The same, told by the answer lines alone. */
+void run_records(struct source *source, struct sink *sink);
 
 #endif

@@ -10,10 +10,20 @@ void source_begin(struct source *source, FILE *file)
 {
     source->file = file;
     source->at_end = false;
+    source->data = source->block;
     source->start = 0;
     source->end = 0;
     /* The source has its own buffer; a second one would only copy. */
     setvbuf(file, NULL, _IONBF, 0);
+}
+
+void source_begin_bytes(struct source *source, const uint8_t *bytes, size_t length)
+{
+    source->file = NULL;
+    source->at_end = true;
+    source->data = bytes;
+    source->start = 0;
+    source->end = length;
 }
 
 static void fail_reading(void)
@@ -26,10 +36,10 @@ static void fail_reading(void)
 static bool source_has(struct source *source, size_t wanted)
 {
     while (source->end - source->start < wanted && !source->at_end) {
-        memmove(source->data, source->data + source->start, source->end - source->start);
+        memmove(source->block, source->block + source->start, source->end - source->start);
         source->end -= source->start;
         source->start = 0;
-        size_t got = fread(source->data + source->end, 1, BLOCK_BYTES, source->file);
+        size_t got = fread(source->block + source->end, 1, BLOCK_BYTES, source->file);
         if (got < BLOCK_BYTES) {
             if (ferror(source->file))
                 fail_reading();

@@ -1,6 +1,7 @@
-/* Standard input and output in large blocks. A source cuts its bytes into
- * records without copying them; a sink gathers what is written and hands it
- * on when it is full. Neither asks for memory. */
+/* Standard input and output in large blocks. A source cuts its bytes, those
+ * of a file or bytes that stand in memory, into records without copying them;
+ * a sink gathers what is written and hands it on when it is full. Neither
+ * asks for memory. */
 #ifndef STREAM_H
 #define STREAM_H
 
@@ -16,14 +17,18 @@ enum { BLOCK_BYTES = 65536 };
 struct source {
     FILE *file;
     bool at_end;
+    /* The bytes at hand stand here from start to end: in the block below, or
+     * where the caller keeps them. */
+    const uint8_t *data;
     size_t start;
     size_t end;
-    uint8_t data[BLOCK_BYTES + FRAMED_GREATEST];
+    uint8_t block[BLOCK_BYTES + FRAMED_GREATEST];
 };
 
 enum frame { FRAME_RECORD, FRAME_END, FRAME_BROKEN };
 
 void source_begin(struct source *source, FILE *file);
+void source_begin_bytes(struct source *source, const uint8_t *bytes, size_t length);
 
 /* The next record: its bytes behind the length (kind and payload), valid
  * until the next call. FRAME_END exactly behind the last record,

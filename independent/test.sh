@@ -1,7 +1,8 @@
 #!/bin/sh
 # The tests of the independent tally: its answers on known runs and edges, the
-# round trip of the script form, the reach of the generators, and the second
-# opinion of the naive program. Arguments: the tally and the naive program.
+# round trip of the script form, the reach of the generators and of the corpus,
+# containers, and the second opinion of the naive program. Arguments: the tally
+# and the naive program.
 tally=$1
 naive=$2
 work=build/test.$$
@@ -271,6 +272,113 @@ done
 check "rooms exactly enough" "$broken" ""
 check "every number in 300 texts" "$(sort -un "$work/numbers" | paste -s -d ' ' -)" \
     "0 14 15 16 17 18 30 31 32 33 34"
+
+# --- containers -------------------------------------------------------------
+# The lines of a container written in hexadecimal, joined by commas.
+replayed() {
+    printf 'bytes %s\n' "$*" | "$tally" assemble | "$tally" replay | paste -s -d , -
+}
+
+check "an empty container" "$("$tally" replay < /dev/null)" ""
+check "every run has a fresh session" \
+    "$(replayed 0a000000 06000000 0100 03000000 00000000 0a000000 06000000 0100 02000000)" \
+    "run 1,1 1 0 3 0,run 2,run 3,1 1 0 2 0"
+check "a run does not read the next one" \
+    "$(replayed 06000000 06000000 0100 04000000 03000000)" "run 1,1 0 10 0 0,run 2,1 0 10 0 0"
+check "a container that ends inside a length" \
+    "$(replayed 00)|$(replayed 0000)|$(replayed 00000000 000000)" "||run 1"
+check "a container that ends inside a run" \
+    "$(replayed 05000000)|$(replayed 0a000000 06000000 0100)|$(replayed ffffffff 06000000 0100 03000000)" \
+    "run 1|run 1,1 0 10 0 0|run 1,1 1 0 3 0"
+"$tally" container 40 3 > "$work/container"
+broken=
+for seed in 40 41 42; do
+    "$tally" take "$((seed - 39))" < "$work/container" > "$work/records"
+    "$tally" generate "$seed" | cmp -s - "$work/records" || broken="$broken $seed"
+done
+check "a container holds the runs of its seeds" "$broken" ""
+"$tally" take 4 < "$work/container" > "$work/out" 2> "$work/err"
+check "a run that is not there" "$? $(wc -c < "$work/out" | tr -d ' ') $(cat "$work/err")" \
+    "1 0 tally: the container has only 3 runs"
+"$tally" take 0 < "$work/container" 2> "$work/err"
+check "runs count from 1" "$?" 2
+"$tally" container 1 x 2> "$work/err"
+check "bad count" "$?" 2
+
+# --- the corpus -------------------------------------------------------------
+# Every run is taken out and run alone; its lines stand beside its script.
+"$tally" corpus < "$work/worked.records" > "$work/corpus"
+"$tally" replay < "$work/corpus" > "$work/replayed"
+runs=$(grep -c '^run ' "$work/replayed")
+check "runs in the corpus" "$((runs >= 200))" 1
+check "size of the corpus" "$(($(wc -c < "$work/corpus") <= 2500000))" 1
+: > "$work/told"
+number=1
+while [ "$number" -le "$runs" ]; do
+    "$tally" take "$number" < "$work/corpus" > "$work/records"
+    "$tally" run < "$work/records" > "$work/lines"
+    echo "run $number" >> "$work/told"
+    "$tally" disassemble < "$work/records" | paste -d '|' "$work/lines" - >> "$work/told"
+    number=$((number + 1))
+done
+check "replay agrees with single runs" \
+    "$(cut -d '|' -f 1 "$work/told" | grep . | cmp - "$work/replayed" && echo same)" same
+check "every answer in the corpus" "$(grep -v '^run ' "$work/replayed" | cut -d ' ' -f 3 |
+    sort -un | paste -s -d ' ' -)" "0 1 10 11 12 13 14 15 16 17 18 19 20 21 22 23 24"
+check "the corpus starts with the worked run" "$(sed -n '2,22p' "$work/replayed")" "$(cat worked.lines)"
+check "the worked run cut short" "$(awk '/^run / { number = $2; next } { last[number] = $3; count[number]++ }
+    END { for (n = 2; n <= 9; n++) printf "%d:%d ", count[n] - count[2], last[n] == 10
+          print count[10] + 0 }' "$work/replayed")" "0:0 1:1 1:1 1:1 1:1 1:1 1:1 11:1 0"
+
+# What the corpus reaches: the fullest of each room and the greatest bound, the
+# rooms that were too small for one more, cores over outputs, rules and wishes
+# behind a counter, and the counters of which each clause was named by a hint.
+reach() {
+    awk -F '[ |]' '
+    function clauses(s, p) {
+        p = int(s / 2)
+        return s < 2 ? 0 : (p + 1) * (s - p + 1) - 1 + clauses(p) + clauses(s - p)
+    }
+    function most(name, value) { if (value > top[name]) top[name] = value }
+    function finish(c) {
+        for (c = 0; c < counters; c++)
+            if (names[c] == clauses(width[c])) whole[width[c]] = 1
+        rules = rule_literals = wishes = wish_literals = derived = derived_literals = counters = 0
+        split("", size); split("", width); split("", names); split("", named); split("", outputs)
+    }
+    /^run / { finish(); next }
+    $3 == 23 && $2 == 2 { past[rules == 2048 ? "rules" : "rule literals"] = 1 }
+    $3 == 23 && $2 == 3 { past[wishes == 512 ? "wishes" : "wish literals"] = 1 }
+    $3 == 23 && $2 == 4 { past[derived == 4096 ? "derived" : "derived literals"] = 1 }
+    $3 == 23 && $2 == 5 { past["counters"] = 1 }
+    $3 != 0 { next }
+    $2 == 2 { most("rules", ++rules); most("rule literals", rule_literals += NF - 6) }
+    $2 == 3 { most("wishes", ++wishes); most("wish literals", wish_literals += NF - 7) }
+    $2 <= 3 && counters > 0 { late[$2] = 1 }
+    $2 == 4 {
+        most("derived", ++derived)
+        most("derived literals", derived_literals += $5)
+        size[$4] = $5
+        for (k = 7; k < 7 + $5; k++) if ($k > 4000) outputs[$4] = 1
+        if (NF == 11 + $5 && $(8 + $5) == "counter" && !named[$(9 + $5), $(11 + $5)]++)
+            names[$(9 + $5)]++
+    }
+    $2 == 5 {
+        most("bound", $4)
+        if (outputs[$7]) over_outputs = 1
+        if (size[$7] > 1) { width[counters++] = size[$7]; most("counters", counters) }
+    }
+    END {
+        finish()
+        print top["rules"], top["rule literals"], top["wishes"], top["wish literals"], \
+            top["derived"], top["derived literals"], top["counters"], top["bound"]
+        print past["rules"] past["rule literals"] past["wishes"] past["wish literals"] \
+            past["derived"] past["derived literals"] past["counters"], over_outputs, late[2] late[3]
+        print whole[2] whole[3] whole[33] whole[63] whole[64]
+    }' "$work/told" | paste -s -d , -
+}
+check "reach of the corpus" "$(reach)" \
+    "2048 16384 512 8192 4096 16384 128 512000000,1111111 1 11,11111"
 
 # --- rules and wishes moved to the front -----------------------------------
 # What was accepted is put in again with rules and wishes first; the same

@@ -1,2 +1,2 @@
 -- What the contracts of this crate cite besides the paper.
-pub mod Kept
+pub mod Worked

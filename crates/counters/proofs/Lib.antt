@@ -3,4 +3,5 @@ pub mod Entries
 pub mod Signs
 pub mod Halves
 pub mod Holding
+pub mod Search
 pub mod Ones

@@ -9,7 +9,7 @@ ghost use lib.IntN.{pos, negsuc};
 ghost use lib.ListN.{length};
 ghost use Rattle.paper.specs.Clauses.{Clause};
 ghost use Rattle.paper.specs.Counters.{output, previous, unless, sumClause, ownClauses, clauseAt, variablesOf};
-ghost use Rattle.counters.specs.Numbered.{counterOf, numbered, Holds};
+ghost use Rattle.counters.specs.Numbered.{counterOf, numbered, Holds, Found};
 
 // A clause of up to three literals. The entries past its length are 0.
 pub struct Three {
@@ -112,27 +112,46 @@ fn node_clause(inputs: &[i32], start: usize, number: usize) -> Three
     sum_clause(left, right, start, place / columns, place % columns)
 }
 
-fn clause_by_halves(inputs: &[i32], start: usize, number: usize) -> Three
-    requires { ⌜ (length (now inputs) ≤ 64) × (start + variablesOf (length (now inputs)) ≤ 1000384) ⌝ }
-    ensures { λ r. ⌜ Holds r (clauseAt (counterOf (now (inputs .entry))) start number) ⌝ }
+// The node that a clause belongs to, found by the halves: where its inputs begin among the counter's and how many they are, its first
+// variable, and the clause's number in it. It goes by numbers alone, so that a search costs no more than its steps.
+fn node_by_halves(from: usize, size: usize, start: usize, number: usize, node: &mut [usize; 4])
+    requires { ⌜ (size ≤ 64) × (from + size ≤ 64) × (start + variablesOf size ≤ 1000384) ⌝ }
+    ensures { λ _. ⌜ Found from size start number (now (node .exit)) ⌝ }
 {
-    let size = inputs.len();
     if size < 2 {
-        return no_clause();
+        *node = [from, size, start, number];
+        return;
     }
     let half = size / 2;
     let others = size - half;
     let own = half + others + half * others;
     if number < own {
-        return node_clause(inputs, start, number);
+        *node = [from, size, start, number];
+        return;
     }
     let below = number - own;
     let left = clauses_of(half);
     if below < left {
-        return clause_by_halves(&inputs[..half], start + size, below);
+        node_by_halves(from, half, start + size, below, node);
+        return;
     }
     let right_start = start + size + variables_of(half);
-    clause_by_halves(&inputs[half..], right_start, below - left)
+    node_by_halves(from + half, others, right_start, below - left, node)
+}
+
+fn clause_by_halves(inputs: &[i32], start: usize, number: usize) -> Three
+    requires { ⌜ (length (now inputs) ≤ 64) × (start + variablesOf (length (now inputs)) ≤ 1000384) ⌝ }
+    ensures { λ r. ⌜ Holds r (clauseAt (counterOf (now (inputs .entry))) start number) ⌝ }
+{
+    let mut node: [usize; 4] = [0; 4];
+    node_by_halves(0, inputs.len(), start, number, &mut node);
+    let from = node[0];
+    let end = from + node[1];
+    let part = &inputs[from..end];
+    if part.len() < 2 {
+        return no_clause();
+    }
+    node_clause(part, node[2], node[3])
 }
 
 // Clause `number` of the counter over the inputs' variables, whose own variables are numbered from `start` on.

@@ -1,21 +1,19 @@
--- One hint more and one literal more, place by place, and the value rooms as they are given back.
+-- One hint more and one literal more, place by place.
 use mathlib.Core.Path.{_≡_, refl, sym, ap, _∙_}
-use mathlib.Core.Bool.{Bool, true}
-use mathlib.Core.List.{List, _++_, map}
+use mathlib.Core.Bool.{true}
+use mathlib.Core.List.{List, map}
 use Prim.Native.Nat.{ℕ, suc, _+_, _<_, _≤_}
 use native.Mathlib.Numerals.{add-one}
 use native.Mathlib.Omega.{arith}
 use lib.IntN.{ℤ, pos}
 use lib.ListN.{length, drop, getD, drop-of-length-le}
 use lib.Seq.{drop-cons}
-use Rattle.paper.specs.Clauses.{Clause, variable}
+use Rattle.paper.specs.Clauses.{Clause}
 use Rattle.paper.specs.Derivation.{Value, unassigned, is, assign, ending, follow}
 use Rattle.paper.specs.declared.Reading.{Reading}
 use Rattle.paper.specs.declared.Reading.the-variants.{AllFalse, Forces}
-use Rattle.clauses.proofs.Lists.{append-parts}
-use Rattle.values.specs.Values.{code, literalIn, assignedIn, unassignedIn}
+use Rattle.values.specs.Values.{code, literalIn, assignedIn}
 use Rattle.values.specs.Readings.{readIn}
-use Rattle.values.proofs.Values.{assigned-back}
 use Rattle.derive.specs.Derivations.{misfitIn, falseIn, assumedIn}
 
 -- ── Hints, with the clause of each ──
@@ -61,14 +59,3 @@ pub false-kept : (room : List ℕ) (l : ℤ) (value : Value) (byte : ℕ) → by
     → falseIn room l value ≡ room
 false-kept room l unassigned byte e h = absurd (h e)
 false-kept room l (is b) byte e h = refl
-
--- ── The rooms, assigned and then unassigned ──
-
--- `k` is the literal as the machine has it.
-pub rooms-back : {low high low′ high′ low″ high″ low‴ high‴ : List ℕ} {k l : ℤ} (b : Bool) → k ≡ l
-    → literalIn (low ++ high) l ≡ unassigned → low′ ++ high′ ≡ assignedIn (low ++ high) (assign k b)
-    → (low″ ≡ low′) × (high″ ≡ high′) → low‴ ++ high‴ ≡ unassignedIn (low″ ++ high″) (variable k)
-    → length low‴ ≡ length low → (low‴ ≡ low) × (high‴ ≡ high)
-rooms-back {low} {high} {l = l} b z unset assigned kept back same =
-    append-parts _ _ low high same
-    (back ∙ rw (kept .0, kept .1, assigned, z) (assigned-back (low ++ high) l b unset))

@@ -1,12 +1,12 @@
 // The check of a derivation. The clause's literals are taken as false and the hints are read in their order; each that forces a
-// literal assigns it. The call stack is the trail: a function assigns, goes on and takes the value away again, so the value rooms
-// are left as they were, whatever they held.
+// literal assigns it. What was assigned stands on a trail and is taken back from its end, so the value rooms are left as they were,
+// whatever they held.
 
 ghost use mathlib.Core.Path.{_≡_};
 ghost use mathlib.Core.Bool.{true};
 ghost use mathlib.Core.List.{List, [], _++_};
 ghost use Prim.Native.Nat.{ℕ, _+_, _≤_, _<_};
-ghost use lib.ListN.{length, drop, getD};
+ghost use lib.ListN.{length, getD};
 ghost use Rattle.paper.specs.Sizes.{mostHints, wishRoom, counterStart};
 ghost use Rattle.paper.specs.Clauses.{Clause, every};
 ghost use Rattle.paper.specs.Session.{Session, tallyOf, namedLiteral, ofWish, ofCounter, hintIn, hintNamed, hintClause};
@@ -14,6 +14,7 @@ ghost use Rattle.paper.specs.Derivation.{assume, misfit};
 ghost use Rattle.paper.specs.Runs.{Reached};
 ghost use Rattle.clauses.specs.Family.{Holds};
 ghost use Rattle.values.specs.Readings.{readIn};
+ghost use Rattle.values.specs.Marks.{unmarked};
 ghost use Rattle.rooms.specs.Held.{HeldIn, HeldCounters, Zeros, wishFamily};
 ghost use Rattle.derive.specs.Derivations.{HeldClauses, ForcesOpen, hinted, misfitIn, assumedIn};
 use paper::Reading;
@@ -27,6 +28,9 @@ const FIRST_COUNTER: usize = 4001;
 const MOST_WISHES: u32 = 512;
 
 const MOST_HINTS: usize = 256;
+
+// No width allows more, so that the trail has a place for each.
+const MOST_LITERALS: usize = 256;
 
 // A clause that stands whole in its family's room.
 fn read_stored(
@@ -43,7 +47,7 @@ fn read_stored(
         → r ≡ readIn (now (low .entry) ++ now (high .entry)) (getD family number [])) ⌝ }
 {
     let clause = clauses::clause_of(literals, ends, count, number);
-    values::read_on(Reading::AllFalse, low, high, clause)
+    values::read(low, high, clause)
 }
 
 // A wish clause is the stretch of its literals and then its wish variable.
@@ -65,7 +69,7 @@ fn read_wish(
         return Reading::StillOpen;
     }
     let clause = clauses::clause_of(literals, ends, count, number);
-    let reading = values::read_on(Reading::AllFalse, low, high, clause);
+    let reading = values::read(low, high, clause);
     values::read_one(reading, low, high, (FIRST_WISH + number) as i32)
 }
 
@@ -165,7 +169,14 @@ fn read_hint(
     Reading::StillOpen
 }
 
-// The hints from place i on: 0 where they end the derivation, else the place from 1 of the first that does not fit.
+// Where the hints lead to, and how many literals the trail has then.
+struct Followed {
+    place: usize,
+    count: usize,
+}
+
+// The hints in their order: 0 where they end the derivation, else the place from 1 of the first that does not fit. What they force
+// goes on the trail.
 fn follow_hints(
     low: &mut [u8],
     high: &mut [u8],
@@ -180,10 +191,13 @@ fn follow_hints(
     width: Width,
     tally: Tally,
     hints: &[u64],
-    i: usize,
-) -> usize
-    requires { ⌜ i ≤ length (now hints) ⌝ }
-    ensures kept { λ _. ⌜ (now (low .exit) ≡ now (low .entry)) × (now (high .exit) ≡ now (high .entry)) ⌝ }
+    trail: &mut [i32],
+    count: usize,
+) -> Followed
+    requires { ⌜ count + length (now hints) ≤ length (now trail) ⌝ }
+    ensures within { λ r. ⌜ r .count ≤ length (now (trail .entry)) ⌝ }
+    ensures undone { λ r. ⌜ unmarked (now (low .exit) ++ now (high .exit)) (now (trail .exit)) (r .count)
+        ≡ unmarked (now (low .entry) ++ now (high .entry)) (now (trail .entry)) count ⌝ }
     ensures answer { λ r. ⌜ ((s : Session) → Reached s
         → HeldClauses (record {
           rules = now (rules .entry);
@@ -197,165 +211,89 @@ fn follow_hints(
         }) s
         → width ≡ s .sheet .width → tally ≡ tallyOf s
         → every (λ word. hintNamed (s .sheet) (s .work) (hintIn word)) (now (hints .entry)) ≡ true
-        → r ≡ misfitIn (now (low .entry) ++ now (high .entry)) (i + 1) (hinted s (drop i (now (hints .entry))))) ⌝ }
+        → r .place ≡ misfitIn (now (low .entry) ++ now (high .entry)) 1 (hinted s (now (hints .entry)))) ⌝ }
 {
-    let place = i + 1;
-    if hints.len() <= i {
-        return place;
-    }
-    let hint = hints[i];
-    let reading = read_hint(
-        low,
-        high,
-        rules,
-        rule_ends,
-        wishes,
-        wish_ends,
-        inputs,
-        counter_ends,
-        derived,
-        derived_ends,
-        width,
-        tally,
-        hint,
-    );
-    match reading {
-        Reading::AllFalse => {
-            if place == hints.len() {
-                return 0;
+    let mut i: usize = 0;
+    while i < hints.len() {
+        let place = i + 1;
+        let assigned = count + i;
+        let hint = hints[i];
+        let reading = read_hint(
+            low,
+            high,
+            rules,
+            rule_ends,
+            wishes,
+            wish_ends,
+            inputs,
+            counter_ends,
+            derived,
+            derived_ends,
+            width,
+            tally,
+            hint,
+        );
+        match reading {
+            Reading::AllFalse => {
+                if place == hints.len() {
+                    return Followed {
+                        place: 0,
+                        count: assigned,
+                    };
+                }
+                return Followed {
+                    place: place,
+                    count: assigned,
+                };
             }
-            return place;
+            Reading::Forces(literal) => {
+                values::assign_next(low, high, trail, assigned, literal, true);
+            }
+            Reading::AlreadyTrue => {
+                return Followed {
+                    place: place,
+                    count: assigned,
+                };
+            }
+            Reading::StillOpen => {
+                return Followed {
+                    place: place,
+                    count: assigned,
+                };
+            }
         }
-        Reading::Forces(literal) => {
-            values::assign(low, high, literal, true);
-            let found = follow_hints(
-                low,
-                high,
-                rules,
-                rule_ends,
-                wishes,
-                wish_ends,
-                inputs,
-                counter_ends,
-                derived,
-                derived_ends,
-                width,
-                tally,
-                hints,
-                place,
-            );
-            values::unassign(low, high, literal);
-            return found;
-        }
-        Reading::AlreadyTrue => {
-            return place;
-        }
-        Reading::StillOpen => {
-            return place;
-        }
+        i = place;
+    }
+    Followed {
+        place: i + 1,
+        count: count + i,
     }
 }
 
-// The clause's literals from place j on are taken as false, where they have no value yet, and then the hints are followed.
-fn assume_then(
-    low: &mut [u8],
-    high: &mut [u8],
-    rules: &[i32],
-    rule_ends: &[u32],
-    wishes: &[i32],
-    wish_ends: &[u32],
-    inputs: &[i32],
-    counter_ends: &[u32],
-    derived: &[i32],
-    derived_ends: &[u32],
-    width: Width,
-    tally: Tally,
-    clause: &[i32],
-    hints: &[u64],
-    j: usize,
-) -> usize
-    requires { ⌜ j ≤ length (now clause) ⌝ }
-    ensures kept { λ _. ⌜ (now (low .exit) ≡ now (low .entry)) × (now (high .exit) ≡ now (high .entry)) ⌝ }
-    ensures answer { λ r. ⌜ ((s : Session) → Reached s
-        → HeldClauses (record {
-          rules = now (rules .entry);
-          ruleEnds = now («rule_ends» .entry);
-          wishes = now (wishes .entry);
-          wishEnds = now («wish_ends» .entry);
-          inputs = now (inputs .entry);
-          counterEnds = now («counter_ends» .entry);
-          derived = now (derived .entry);
-          derivedEnds = now («derived_ends» .entry);
-        }) s
-        → width ≡ s .sheet .width → tally ≡ tallyOf s
-        → every (λ word. hintNamed (s .sheet) (s .work) (hintIn word)) (now (hints .entry)) ≡ true
-        → r ≡ misfitIn (assumedIn (now (low .entry) ++ now (high .entry)) (drop j (now (clause .entry)))) 1
-        (hinted s (now (hints .entry)))) ⌝ }
+// Takes the clause's literals as false, where they have no value yet, and says how many that are.
+fn assume(low: &mut [u8], high: &mut [u8], clause: &[i32], trail: &mut [i32]) -> usize
+    requires { ⌜ length (now clause) ≤ length (now trail) ⌝ }
+    ensures within { λ r. ⌜ r ≤ length (now (clause .entry)) ⌝ }
+    ensures undone { λ r. ⌜ unmarked (now (low .exit) ++ now (high .exit)) (now (trail .exit)) r
+        ≡ now (low .entry) ++ now (high .entry) ⌝ }
+    ensures assumed { λ _. ⌜ now (low .exit) ++ now (high .exit)
+        ≡ assumedIn (now (low .entry) ++ now (high .entry)) (now (clause .entry)) ⌝ }
 {
-    if clause.len() <= j {
-        return follow_hints(
-            low,
-            high,
-            rules,
-            rule_ends,
-            wishes,
-            wish_ends,
-            inputs,
-            counter_ends,
-            derived,
-            derived_ends,
-            width,
-            tally,
-            hints,
-            0,
-        );
+    let mut count: usize = 0;
+    let mut j: usize = 0;
+    while j < clause.len() {
+        let literal = clause[j];
+        j += 1;
+        if values::value(low, high, literal) == 0 {
+            values::assign_next(low, high, trail, count, literal, false);
+            count += 1;
+        }
     }
-    let literal = clause[j];
-    let next = j + 1;
-    let known = values::value(low, high, literal);
-    if known != 0 {
-        return assume_then(
-            low,
-            high,
-            rules,
-            rule_ends,
-            wishes,
-            wish_ends,
-            inputs,
-            counter_ends,
-            derived,
-            derived_ends,
-            width,
-            tally,
-            clause,
-            hints,
-            next,
-        );
-    }
-    values::assign(low, high, literal, false);
-    let place = assume_then(
-        low,
-        high,
-        rules,
-        rule_ends,
-        wishes,
-        wish_ends,
-        inputs,
-        counter_ends,
-        derived,
-        derived_ends,
-        width,
-        tally,
-        clause,
-        hints,
-        next,
-    );
-    values::unassign(low, high, literal);
-    place
+    count
 }
 
-// 0 where the hints show the clause, else the place from 1 of the first that does not fit. Every hint and every literal is a call
-// deeper, so more of them than the sizes allow, which 16 or 19 has refused, are not followed.
+// 0 where the hints show the clause, else the place from 1 of the first that does not fit. The trail has a place for every literal
+// and every hint that the sizes allow: more of them, which 16 or 19 has refused, are not followed.
 pub fn misfit_of(
     low: &mut [u8],
     high: &mut [u8],
@@ -399,7 +337,12 @@ pub fn misfit_of(
     if (width.literals as usize) < clause.len() {
         return 1;
     }
-    assume_then(
+    if MOST_LITERALS < clause.len() {
+        return 1;
+    }
+    let mut trail: [i32; 512] = [0; 512];
+    let assumed = assume(low, high, clause, &mut trail);
+    let followed = follow_hints(
         low,
         high,
         rules,
@@ -412,8 +355,10 @@ pub fn misfit_of(
         derived_ends,
         width,
         tally,
-        clause,
         hints,
-        0,
-    )
+        &mut trail,
+        assumed,
+    );
+    values::take_back(&trail, followed.count, low, high);
+    followed.place
 }

@@ -16,4 +16,5 @@ pub mod Costs
 pub mod Later
 pub mod Reorder
 pub mod Reach
+pub mod Inputs
 pub mod Promised

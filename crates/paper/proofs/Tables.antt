@@ -26,7 +26,7 @@ answer-first (x ∷ above) below r other e f =
     let p = passed (x .applies) (clear above) e in
     rw (p .0) (answer-first above below r other (p .1) f)
 
-not-clear : (above below : List Refusal) (r : Refusal) → r .applies ≡ true → clear (above ++ (r ∷ below)) ≡ false
+pub not-clear : (above below : List Refusal) (r : Refusal) → r .applies ≡ true → clear (above ++ (r ∷ below)) ≡ false
 not-clear [] below r f = rw f
 not-clear (x ∷ above) below r f = rw (not-clear above below r f) (and-none (not (x .applies)))
   where

@@ -4,17 +4,13 @@ use mathlib.Core.List.{List, [], _∷_}
 use Prim.Native.Nat.{ℕ}
 use Rattle.paper.specs.Clauses.{every, pick}
 use Rattle.paper.specs.declared.Answer.{Answer}
+use Rattle.paper.specs.declared.Numbers.{Numbers}
 use Rattle.paper.specs.declared.Answer.the-variants.{Opened, Rule, Wish, Derived, Core, Best, Counted, Broken, Refused}
-
--- What a line gives back: a number, and two values.
-pub record Numbers : Type 0 where
-  pub number : ℕ
-  pub first : ℕ
-  pub second : ℕ
 
 abbrev pub give : ℕ → ℕ → ℕ → Numbers
 give r x y = record { number = r; first = x; second = y }
 
+-- What a line gives back: a number, and two values.
 abbrev pub numbers : Answer → Numbers
 numbers (Opened n) = give 0 n 0
 numbers (Rule i) = give 0 i 0
@@ -42,3 +38,11 @@ clear = every (λ r. not (r .applies))
 abbrev pub answerOr : List Refusal → Answer → Answer
 answerOr [] other = other
 answerOr (r ∷ rs) other = pick (r .applies) (r .answer) (answerOr rs other)
+
+-- The number of a table's first line that applies; 0 where none does.
+abbrev pub numberOf : Refusal → ℕ
+numberOf r = numbers (r .answer) .number
+
+abbrev pub lowest : List Refusal → ℕ
+lowest [] = 0
+lowest (r ∷ rs) = pick (r .applies) (numberOf r) (lowest rs)

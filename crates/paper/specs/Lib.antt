@@ -8,5 +8,9 @@ pub mod Derivation
 pub mod Answers
 pub mod Steps
 pub mod Runs
+pub mod Records
+pub mod Inputs
+pub mod Texts
+pub mod TextEdges
 pub mod Worked
 pub mod Promises

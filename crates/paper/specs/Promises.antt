@@ -13,9 +13,12 @@ use Rattle.paper.specs.Session.{Session, Hint, fresh, ofCounter, remaini
 use Rattle.paper.specs.Truth.{meets, cost, truth, weightOn, allWeights}
 use Rattle.paper.specs.Answers.{Refusal, numbers, clear}
 use Rattle.paper.specs.Steps.{Step, opening, derive, judge, refusals, reply, effect, accepted, answer, next}
-use Rattle.paper.specs.Runs.{Entry, Runs, Reached, select, isRule, isWish, isWork}
-use Rattle.paper.specs.Worked.{computed, printed}
+use Rattle.paper.specs.Runs.{Entry, Runs, Reached, select, isRule, isWish, isWork, linesFrom}
+use Rattle.paper.specs.Inputs.{front, recordsIn, bytesOf, recordLines, after, endLine, endLines, runFrom, run, lineText}
+use Rattle.paper.specs.Worked.{input, inputBytes, line, computed, printed}
+use Rattle.paper.specs.TextEdges.{edgesComputed, edgesStated}
 use Rattle.paper.specs.declared.Answer.the-variants.{Opened, Best}
+use Rattle.paper.specs.declared.Front.the-variants.{Short, Wrong}
 
 -- ── Demand 1, and demand 2's last sentence ──
 
@@ -133,10 +136,44 @@ Unmoved =
     → (hintNamed (next s m .sheet) (next s m .work) h ≡ true)
     × (hintClause (next s m .sheet) (next s m .work) h ≡ hintClause (s .sheet) (s .work) h)
 
+-- ── Inputs ──
+
+-- However an input is cut, the records that stand whole in its first part have the run's first lines, and the run goes on behind
+-- them, with the session and the place after them.
+abbrev pub InBlocks : Type 0
+InBlocks =
+    (most place : ℕ) (s : Session) (block rest : List ℕ)
+    → runFrom place s (block ++ rest)
+    ≡ recordLines place s (recordsIn most block)
+    ++ runFrom (place + length (recordsIn most block)) (after s (recordsIn most block)) (drop (bytesOf (recordsIn most block)) block ++ rest)
+
+-- At a length that no record has the run ends with 10, whatever follows.
+abbrev pub EndsWrong : Type 0
+EndsWrong =
+    (place : ℕ) (s : Session) (bytes rest : List ℕ) → front bytes ≡ Wrong → runFrom place s (bytes ++ rest) ≡ endLine place ∷ []
+
+-- Where an input ends and no whole record is left, the run ends with 10, or with nothing behind the last record.
+abbrev pub EndsShort : Type 0
+EndsShort = (place : ℕ) (s : Session) (bytes : List ℕ) → front bytes ≡ Short → runFrom place s bytes ≡ endLines place bytes
+
 -- ── The table of the worked run ──
 
 abbrev pub WorkedTable : Type 0
 WorkedTable = computed ≡ printed
+
+-- Its bytes are its steps: the run over them has the same lines, all 21.
+abbrev pub WorkedBytes : Type 0
+WorkedBytes = run inputBytes ≡ linesFrom 1 fresh input
+
+-- Its last line as text: "21 6 24 1 0" and a line end.
+abbrev pub LineAsText : Type 0
+LineAsText = lineText (line 21 6 24 1 0) ≡ 50 ∷ 49 ∷ 32 ∷ 54 ∷ 32 ∷ 50 ∷ 52 ∷ 32 ∷ 49 ∷ 32 ∷ 48 ∷ 10 ∷ []
+
+-- ── The older text ──
+
+-- Its edges have the answers that the description gives them.
+abbrev pub EdgesOfTexts : Type 0
+EdgesOfTexts = edgesComputed ≡ edgesStated
 
 -- ── All of them: the one theorem of this crate ──
 
@@ -156,4 +193,10 @@ pub record Promised : Type 0 where
   pub costLaw : CostLaw
   pub totalLaw : TotalLaw
   pub unmoved : Unmoved
+  pub inBlocks : InBlocks
+  pub endsWrong : EndsWrong
+  pub endsShort : EndsShort
   pub workedTable : WorkedTable
+  pub workedBytes : WorkedBytes
+  pub lineAsText : LineAsText
+  pub edgesOfTexts : EdgesOfTexts

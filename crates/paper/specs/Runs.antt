@@ -6,9 +6,10 @@ use Prim.Native.Nat.{ℕ, suc}
 use lib.Dec.{eqb}
 use Rattle.paper.specs.Clauses.{pick}
 use Rattle.paper.specs.Session.{Session, fresh}
-use Rattle.paper.specs.Answers.{Numbers, numbers}
+use Rattle.paper.specs.Answers.{numbers}
 use Rattle.paper.specs.Steps.{Step, opening, rule, wish, derive, core, judge, accepted, answer, next}
 use Rattle.paper.specs.declared.Answer.{Answer}
+use Rattle.paper.specs.declared.Numbers.{Numbers}
 
 -- A step, and the answer that it got.
 pub record Entry : Type 0 where

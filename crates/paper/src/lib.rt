@@ -42,6 +42,23 @@ pub enum Answer {
     Refused(u32),
 }
 
+// What an answer gives back: its number, and two values.
+pub struct Numbers {
+    pub number: u32,
+    pub first: u32,
+    pub second: u32,
+}
+
+// What stands at the front of some bytes of an input.
+pub enum Front {
+    // the bytes end inside a record or its length
+    Short,
+    // a length that no record has
+    Wrong,
+    // a record, with the length of what follows its first 4 bytes
+    Whole(usize),
+}
+
 // What a hint says under an assignment. `AlreadyTrue` goes before `StillOpen`: one true literal settles it.
 pub enum Reading {
     AllFalse,

@@ -16,7 +16,7 @@ use Rattle.paper.proofs.Later.{closed-fresh}
 use Rattle.clauses.proofs.Family.{holds-none}
 use Rattle.weights.proofs.Rooms.{zeros-weigh}
 use Rattle.weights.specs.Weights.{outputPlaces}
-use Rattle.rooms.specs.Held.{Rooms, Held, HeldIn, HeldRules, HeldWishes, HeldDerived, HeldCounters, HeldWeights, counterRoom, weightsRoom}
+use Rattle.rooms.specs.Held.{Rooms, Held, HeldIn, HeldRules, HeldWishes, HeldDerived, HeldCounters, HeldWeights, counterRoom, weightsRoom, withRules, withWishes, withDerived, withCounters}
 
 -- ── Zeroed rooms ──
 
@@ -106,19 +106,7 @@ opening-held s n rooms r H = go (accepted s (opening n)) refl
 
 module _ (s : Session) (rooms : Rooms) (H : Held rooms s) where
   pub rule-held : (c : Clause) (literals : List ℤ) (ends : List ℕ) → HeldRules literals ends (next s (rule c))
-      → Held (record {
-        rules = literals;
-        ruleEnds = ends;
-        wishes = rooms .wishes;
-        wishEnds = rooms .wishEnds;
-        wishWeights = rooms .wishWeights;
-        derived = rooms .derived;
-        derivedEnds = rooms .derivedEnds;
-        inputs = rooms .inputs;
-        counterEnds = rooms .counterEnds;
-        left = rooms .left;
-        outputs = rooms .outputs;
-      }) (next s (rule c))
+      → Held (withRules rooms literals ends) (next s (rule c))
   rule-held c literals ends K =
       record {
         rules = K;
@@ -131,19 +119,7 @@ module _ (s : Session) (rooms : Rooms) (H : Held rooms s) where
 
   pub wish-held : (w : ℕ) (c : Clause) (literals : List ℤ) (ends weights left : List ℕ) → HeldWishes literals ends weights (next s (wish w c))
       → HeldWeights left (rooms .outputs) (next s (wish w c))
-      → Held (record {
-        rules = rooms .rules;
-        ruleEnds = rooms .ruleEnds;
-        wishes = literals;
-        wishEnds = ends;
-        wishWeights = weights;
-        derived = rooms .derived;
-        derivedEnds = rooms .derivedEnds;
-        inputs = rooms .inputs;
-        counterEnds = rooms .counterEnds;
-        left = left;
-        outputs = rooms .outputs;
-      }) (next s (wish w c))
+      → Held (withWishes rooms literals ends weights left) (next s (wish w c))
   wish-held w c literals ends weights left K G =
       record {
         rules = next-keeps s (wish w c) (HeldRules (rooms .rules) (rooms .ruleEnds)) (H .rules) (H .rules);
@@ -154,19 +130,7 @@ module _ (s : Session) (rooms : Rooms) (H : Held rooms s) where
       }
 
   pub derive-held : (c : Clause) (hints : List Hint) (literals : List ℤ) (ends : List ℕ) → HeldDerived literals ends (next s (derive c hints))
-      → Held (record {
-        rules = rooms .rules;
-        ruleEnds = rooms .ruleEnds;
-        wishes = rooms .wishes;
-        wishEnds = rooms .wishEnds;
-        wishWeights = rooms .wishWeights;
-        derived = literals;
-        derivedEnds = ends;
-        inputs = rooms .inputs;
-        counterEnds = rooms .counterEnds;
-        left = rooms .left;
-        outputs = rooms .outputs;
-      }) (next s (derive c hints))
+      → Held (withDerived rooms literals ends) (next s (derive c hints))
   derive-held c hints literals ends K =
       record {
         rules = next-keeps s (derive c hints) (HeldRules (rooms .rules) (rooms .ruleEnds)) (H .rules) (H .rules);
@@ -179,19 +143,7 @@ module _ (s : Session) (rooms : Rooms) (H : Held rooms s) where
 
   pub core-held : (d : ℕ) (inputs : List ℤ) (ends left outputs : List ℕ) → HeldCounters inputs ends (next s (core d))
       → HeldWeights left outputs (next s (core d))
-      → Held (record {
-        rules = rooms .rules;
-        ruleEnds = rooms .ruleEnds;
-        wishes = rooms .wishes;
-        wishEnds = rooms .wishEnds;
-        wishWeights = rooms .wishWeights;
-        derived = rooms .derived;
-        derivedEnds = rooms .derivedEnds;
-        inputs = inputs;
-        counterEnds = ends;
-        left = left;
-        outputs = outputs;
-      }) (next s (core d))
+      → Held (withCounters rooms inputs ends left outputs) (next s (core d))
   core-held d inputs ends left outputs K G =
       record {
         rules = next-keeps s (core d) (HeldRules (rooms .rules) (rooms .ruleEnds)) (H .rules) (H .rules);

@@ -67,6 +67,72 @@ pub record Rooms : Type 0 where
   pub left : List ℕ
   pub outputs : List ℕ
 
+-- ── The rooms that a step writes, in place of the others ──
+
+abbrev pub withRules : Rooms → List ℤ → List ℕ → Rooms
+withRules rooms literals ends =
+    record {
+      rules = literals;
+      ruleEnds = ends;
+      wishes = rooms .wishes;
+      wishEnds = rooms .wishEnds;
+      wishWeights = rooms .wishWeights;
+      derived = rooms .derived;
+      derivedEnds = rooms .derivedEnds;
+      inputs = rooms .inputs;
+      counterEnds = rooms .counterEnds;
+      left = rooms .left;
+      outputs = rooms .outputs;
+    }
+
+abbrev pub withWishes : Rooms → List ℤ → List ℕ → List ℕ → List ℕ → Rooms
+withWishes rooms literals ends weights left =
+    record {
+      rules = rooms .rules;
+      ruleEnds = rooms .ruleEnds;
+      wishes = literals;
+      wishEnds = ends;
+      wishWeights = weights;
+      derived = rooms .derived;
+      derivedEnds = rooms .derivedEnds;
+      inputs = rooms .inputs;
+      counterEnds = rooms .counterEnds;
+      left = left;
+      outputs = rooms .outputs;
+    }
+
+abbrev pub withDerived : Rooms → List ℤ → List ℕ → Rooms
+withDerived rooms literals ends =
+    record {
+      rules = rooms .rules;
+      ruleEnds = rooms .ruleEnds;
+      wishes = rooms .wishes;
+      wishEnds = rooms .wishEnds;
+      wishWeights = rooms .wishWeights;
+      derived = literals;
+      derivedEnds = ends;
+      inputs = rooms .inputs;
+      counterEnds = rooms .counterEnds;
+      left = rooms .left;
+      outputs = rooms .outputs;
+    }
+
+abbrev pub withCounters : Rooms → List ℤ → List ℕ → List ℕ → List ℕ → Rooms
+withCounters rooms inputs ends left outputs =
+    record {
+      rules = rooms .rules;
+      ruleEnds = rooms .ruleEnds;
+      wishes = rooms .wishes;
+      wishEnds = rooms .wishEnds;
+      wishWeights = rooms .wishWeights;
+      derived = rooms .derived;
+      derivedEnds = rooms .derivedEnds;
+      inputs = inputs;
+      counterEnds = ends;
+      left = left;
+      outputs = outputs;
+    }
+
 pub record Held (rooms : Rooms) (s : Session) : Type 0 where
   pub rules : HeldRules (rooms .rules) (rooms .ruleEnds) s
   pub wishes : HeldWishes (rooms .wishes) (rooms .wishEnds) (rooms .wishWeights) s

@@ -1,2 +1,3 @@
 -- What the contracts of the steps cite besides the paper.
 pub mod Held
+pub mod Kept

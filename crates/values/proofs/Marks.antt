@@ -3,7 +3,7 @@ use mathlib.Core.Path.{_≡_, refl, sym, ap, _∙_}
 use mathlib.Core.Bool.{Bool, true, false, not, _&&_, _||_, Bool·not-not, and-true, and-false}
 use mathlib.Core.List.{List, [], _∷_}
 use mathlib.Core.Logic.{_≢_}
-use Prim.Native.Nat.{ℕ, zero, suc, _+_, _-_, _<_}
+use Prim.Native.Nat.{ℕ, zero, suc, _+_, _-_, _<_, _≤_}
 use native.Mathlib.Numerals.{add-one}
 use native.Mathlib.Omega.{arith}
 use lib.Dec.{eqb, leb}
@@ -13,10 +13,12 @@ use lib.Seq.{drop-cons, drop-length, getD-set-same, getD-set-other}
 use borrow.Author.Tests.{ne-eqb, eqb-true, eqb-false, ltb-true, lt-ltb, leb-true}
 use Rattle.paper.specs.Clauses.{Clause, variable, every, hasVariable, variableTwice}
 use Rattle.paper.specs.Session.{problemLiteral}
+use Rattle.paper.specs.Derivation.{unassigned, assign}
 use Rattle.paper.proofs.Lists.{and-split, every-mono}
 use Rattle.clauses.proofs.Lists.{getD-same}
 use Rattle.values.specs.Marks.{placed, fresh, unmarked}
-use Rattle.values.proofs.Values.{set-back}
+use Rattle.values.specs.Values.{literalIn, assignedIn}
+use Rattle.values.proofs.Values.{set-back, assigned-back}
 
 -- ── One literal more, and one less ──
 
@@ -40,6 +42,24 @@ pub unmarked-less : (room : List ℕ) (c : Clause) (i : ℕ) → 0 < i
     → unmarked (set room (variable (getD c (i - 1) (pos 0))) 0) c (i - 1) ≡ unmarked room c i
 unmarked-less room c zero h = absurd (omega arith)
 unmarked-less room c (suc i) h = let e : suc i - 1 ≡ i = omega arith in rw e
+
+-- What is noted from a place on does not show below it.
+unmarked-below : (room : List ℕ) (trail : Clause) (k : ℕ) (l : ℤ) (i : ℕ) → i ≤ k
+    → unmarked room (set trail k l) i ≡ unmarked room trail i
+unmarked-below room trail k l zero h = refl
+unmarked-below room trail k l (suc i) h =
+    rw (getD-set-other trail k i l (pos 0) (λ e. omega arith))
+    (unmarked-below (set room (variable (getD trail i (pos 0))) 0) trail k l i (omega arith))
+
+-- A literal that is assigned and noted next on a trail.
+pub unmarked-next : (room : List ℕ) (trail : Clause) (count : ℕ) (l : ℤ) (b : Bool) → count < length trail
+    → literalIn room l ≡ unassigned
+    → unmarked (assignedIn room (assign l b)) (set trail count l) (count + 1) ≡ unmarked room trail count
+unmarked-next room trail count l b h unset =
+    let back : set (assignedIn room (assign l b)) (variable (getD (set trail count l) count (pos 0))) 0 ≡ room
+    = rw (getD-set-same trail count l (pos 0) h) (assigned-back room l b unset) in
+    rw add-one
+    (ap (λ (w : List ℕ). unmarked w (set trail count l) count) back ∙ unmarked-below room trail count l count (omega arith))
 
 -- ── What fresh marks tell ──
 

@@ -2,10 +2,10 @@
 use mathlib.Core.Path.{_≡_, refl, sym, ap, _∙_}
 use mathlib.Core.Bool.{Bool, true, false}
 use mathlib.Core.List.{List, [], _∷_, _++_}
-use Prim.Native.Nat.{ℕ, suc, _+_, _<_}
+use Prim.Native.Nat.{ℕ, suc, _+_, _<_, _≤_}
 use native.Mathlib.Numerals.{add-one}
 use lib.IntN.{ℤ, pos}
-use lib.ListN.{length, drop, getD}
+use lib.ListN.{length, take, drop, getD, drop-of-length-le}
 use lib.Seq.{drop-cons, drop-length}
 use borrow.Author.Tests.{ltb-true}
 use Rattle.paper.specs.Clauses.{Clause, variable, every}
@@ -79,6 +79,31 @@ read-next room c i r h =
 
 pub read-end : (room : List ℕ) (c : Clause) (i : ℕ) (r : Reading) → i ≡ length c → both r (readIn room (drop i c)) ≡ r
 read-end room c i r e = rw (e, drop-length) (both-none r)
+
+-- ── A stretch with at most one literal that is not false ──
+
+-- The literal at a place; none past the end.
+abbrev pub alone : Clause → ℕ → Clause
+alone c j = take 1 (drop j c)
+
+module _ (room : List ℕ) (c : Clause) (other i : ℕ) (h : i < length c) where
+  pub false-next : literalIn room (getD c i (pos 0)) ≡ is false
+      → both (readIn room (alone c other)) (readIn room (drop (i + 1) c))
+      ≡ both (readIn room (alone c other)) (readIn room (drop i c))
+  false-next e = rw (add-one, drop-cons c i (pos 0) h, e)
+
+  pub other-next : length c ≤ other
+      → both (readIn room (alone c i)) (readIn room (drop (i + 1) c)) ≡ both (readIn room (alone c other)) (readIn room (drop i c))
+  other-next none =
+      let first : alone c i ≡ getD c i (pos 0) ∷ [] = rw (drop-cons c i (pos 0) h) in
+      rw (first, drop-of-length-le c none) (read-next room c i AllFalse h)
+
+pub alone-some : (room : List ℕ) (c : Clause) (j : ℕ) → j < length c
+    → readIn room (alone c j) ≡ readIn room (getD c j (pos 0) ∷ [])
+alone-some room c j h = rw (drop-cons c j (pos 0) h)
+
+pub alone-none : (room : List ℕ) (c : Clause) (j : ℕ) → length c ≤ j → readIn room (alone c j) ≡ AllFalse
+alone-none room c j h = rw (drop-of-length-le c h)
 
 -- ── The paper's reading ──
 

@@ -67,6 +67,12 @@ value-open unassigned n e h g = refl
 value-open (is true) n e h g = absurd (h e)
 value-open (is false) n e h g = absurd (g e)
 
+-- The byte that is written for a false literal tells that it is false.
+pub literal-false : (room : List ℕ) (l : ℤ) (n : ℕ) → n ≡ getD room (variable l) 0 → n ≡ code (is (assign l false .value))
+    → literalIn room l ≡ is false
+literal-false room (pos v) n e f = rw (← e, f)
+literal-false room (negsuc v) n e f = rw (← e, f)
+
 -- ── An assignment taken back ──
 
 -- What is set where it was 0 is as it was once it is 0 again.

@@ -2,13 +2,14 @@
 // variables are told apart. Only `at` and `put` see two rooms; all else speaks of one list, `now low ++ now high`.
 
 ghost use mathlib.Core.Path.{_≡_};
+ghost use mathlib.Core.Bool.{true, false};
 ghost use mathlib.Core.List.{[], _∷_, _++_};
-ghost use Prim.Native.Nat.{ℕ, _≤_, _<_};
+ghost use Prim.Native.Nat.{ℕ, _+_, _≤_, _<_};
 ghost use lib.ListN.{length, getD, set, replicate};
 ghost use Rattle.paper.specs.declared.Width.{Width};
 ghost use Rattle.paper.specs.Clauses.{variable};
 ghost use Rattle.paper.specs.Session.{problemLiteral};
-ghost use Rattle.paper.specs.Derivation.{is, assign as assignment};
+ghost use Rattle.paper.specs.Derivation.{unassigned, is, assign as assignment};
 ghost use Rattle.paper.specs.Steps.{admission};
 ghost use Rattle.clauses.specs.Lowest.{lowest};
 ghost use Rattle.values.specs.Values.{code, literalIn, assignedIn, unassignedIn};
@@ -74,7 +75,7 @@ pub fn value(low: &[u8], high: &[u8], literal: i32) -> u8
     byte_for(literal, byte == 1)
 }
 
-pub fn assign(low: &mut [u8], high: &mut [u8], literal: i32, truth: bool)
+fn assign(low: &mut [u8], high: &mut [u8], literal: i32, truth: bool)
     ensures { λ _. ⌜ now (low .exit) ++ now (high .exit)
         ≡ assignedIn (now (low .entry) ++ now (high .entry)) (assignment literal truth) ⌝ }
 {
@@ -83,7 +84,7 @@ pub fn assign(low: &mut [u8], high: &mut [u8], literal: i32, truth: bool)
     put(low, high, variable, byte);
 }
 
-pub fn unassign(low: &mut [u8], high: &mut [u8], literal: i32)
+fn unassign(low: &mut [u8], high: &mut [u8], literal: i32)
     ensures { λ _. ⌜ now (low .exit) ++ now (high .exit)
         ≡ unassignedIn (now (low .entry) ++ now (high .entry)) (variable literal) ⌝ }
 {
@@ -124,6 +125,62 @@ pub fn read_on(reading: Reading, low: &[u8], high: &[u8], part: &[i32]) -> Readi
     known
 }
 
+// A literal that its byte, of those that are written, tells to be false. A byte that nobody writes tells nothing.
+fn told_false(low: &[u8], high: &[u8], literal: i32) -> bool
+    ensures { λ r. ⌜ (r ≡ true → literalIn (now (low .entry) ++ now (high .entry)) literal ≡ is false) ⌝ }
+{
+    let variable = clauses::variable_of(literal);
+    let byte = at(low, high, variable);
+    byte == byte_for(literal, false)
+}
+
+// The reading of a whole clause. A hint that fits has at most one literal that is not false, so it is enough to know that one's
+// place; only a clause with more of them is read again, literal by literal.
+pub fn read(low: &[u8], high: &[u8], part: &[i32]) -> Reading
+    ensures { λ r. ⌜ r ≡ readIn (now (low .entry) ++ now (high .entry)) (now (part .entry)) ⌝ }
+{
+    let mut other: usize = part.len();
+    let mut i: usize = 0;
+    while i < part.len() {
+        let literal = part[i];
+        if !told_false(low, high, literal) {
+            if other < part.len() {
+                return read_on(Reading::AllFalse, low, high, part);
+            }
+            other = i;
+        }
+        i += 1;
+    }
+    if other < part.len() {
+        let literal = part[other];
+        return read_one(Reading::AllFalse, low, high, literal);
+    }
+    Reading::AllFalse
+}
+
+// Assigns a literal and puts it on the trail, so that it is taken back with the others there.
+pub fn assign_next(
+    low: &mut [u8],
+    high: &mut [u8],
+    trail: &mut [i32],
+    count: usize,
+    literal: i32,
+    truth: bool,
+)
+    ensures assigned { λ _. ⌜ now (low .exit) ++ now (high .exit)
+        ≡ assignedIn (now (low .entry) ++ now (high .entry)) (assignment literal truth) ⌝ }
+    ensures undone { λ _. ⌜ (count < length (now (trail .entry))
+        → literalIn (now (low .entry) ++ now (high .entry)) literal ≡ unassigned
+        → unmarked (now (low .exit) ++ now (high .exit)) (now (trail .exit)) (count + 1)
+        ≡ unmarked (now (low .entry) ++ now (high .entry)) (now (trail .entry)) count) ⌝ }
+{
+    assign(low, high, literal, truth);
+    if trail.len() <= count {
+        return;
+    }
+    trail[count] = literal;
+}
+
 // Marks the literals' variables up to one that is marked already, and says how many literals that were.
 fn mark(clause: &[i32], low: &mut [u8], high: &mut [u8]) -> usize
     ensures { λ r. ⌜ Marked (now (low .entry) ++ now (high .entry)) (now (clause .entry)) r
@@ -154,6 +211,19 @@ fn unmark(clause: &[i32], count: usize, low: &mut [u8], high: &mut [u8])
         let literal = clause[i];
         unassign(low, high, literal);
     }
+}
+
+// Takes back the first so many literals of a trail, the last of them first; nothing where the trail has fewer.
+pub fn take_back(trail: &[i32], count: usize, low: &mut [u8], high: &mut [u8])
+    ensures within { λ _. ⌜ (count ≤ length (now (trail .entry)) → now (low .exit) ++ now (high .exit)
+        ≡ unmarked (now (low .entry) ++ now (high .entry)) (now (trail .entry)) count) ⌝ }
+    ensures past { λ _. ⌜ (length (now (trail .entry)) < count
+        → (now (low .exit) ≡ now (low .entry)) × (now (high .exit) ≡ now (high .entry))) ⌝ }
+{
+    if trail.len() < count {
+        return;
+    }
+    unmark(trail, count, low, high);
 }
 
 // No variable stands twice, as far as rooms of zeros with a place for each variable can tell. The rooms are left as they were,

@@ -12,8 +12,8 @@ returns c =
     let a = c .before .before .before .before .before .args in
     let room = a .low .now ++ a .high .now in
     let found = c .before .clause-of in (
-      forces-open room (found .result .now) _ (c .read-on .ensures),
-      λ size most family H. c .read-on .ensures ∙ ap (readIn room) (found .ensures size most family H),
+      forces-open room (found .result .now) _ (c .read .ensures),
+      λ size most family H. c .read .ensures ∙ ap (readIn room) (found .ensures size most family H),
     )
 
 pub read-stored-spec : {M : Type 1} → statement M

@@ -36,7 +36,7 @@ returns-2 c =
     let own : Clause = pos (wishVariable (a .number)) ∷ [] in
     let z : toZ w32 (wishVariable (a .number)) ≡ pos (wishVariable (a .number)) = toZ-pos w32 _ (omega arith) in
     let whole : c .read-one .result ≡ readIn room (found .result .now ++ own)
-    = c .read-one .ensures ∙ rw (z, c .before .read-on .ensures) (sym (read-append room (found .result .now) own)) in (
+    = c .read-one .ensures ∙ rw (z, c .before .read .ensures) (sym (read-append room (found .result .now) own)) in (
       forces-open room (found .result .now ++ own) _ whole,
       λ s H count named.
           let stored = counted H (count ∙ sym (length-map (s .sheet .wishes) (λ (x : Wish). x .literals))) in

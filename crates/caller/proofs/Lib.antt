@@ -1,2 +1,0 @@
--- What each step leaves to its caller.
-pub mod Steps

@@ -1,0 +1,2 @@
+-- The laws of this crate, for its callers too.
+pub mod Lines

@@ -1,0 +1,2 @@
+-- How bytes are moved within a buffer.
+pub mod Moves
