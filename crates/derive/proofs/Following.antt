@@ -13,7 +13,7 @@ use Rattle.paper.specs.Derivation.{Value, unassigned, is, assign, ending, follo
 use Rattle.paper.specs.declared.Reading.{Reading}
 use Rattle.paper.specs.declared.Reading.the-variants.{AllFalse, Forces}
 use Rattle.values.specs.Values.{code, literalIn, assignedIn}
-use Rattle.values.specs.Readings.{readIn}
+use Rattle.readings.specs.Readings.{readIn}
 use Rattle.derive.specs.Derivations.{misfitIn, falseIn, assumedIn}
 
 -- ── Hints, with the clause of each ──

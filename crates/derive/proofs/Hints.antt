@@ -26,8 +26,8 @@ use Rattle.clauses.specs.Family.{Holds}
 use Rattle.counters.specs.declared.numbered.Three.{Three}
 use Rattle.counters.specs.Numbered.{counterOf, numbered, Holds as Made}
 use Rattle.names.specs.declared.Parts.{Parts}
-use Rattle.values.specs.Readings.{readIn}
-use Rattle.values.proofs.Readings.{forced}
+use Rattle.readings.specs.Readings.{readIn}
+use Rattle.readings.proofs.Readings.{forced}
 use Rattle.derive.specs.Derivations.{ForcesOpen}
 
 -- ── Open literals ──

@@ -24,10 +24,10 @@ use Rattle.paper.proofs.Reach.{hint-below}
 use Rattle.paper.proofs.Lists.{and-split, every-mono}
 use Rattle.clauses.proofs.Lists.{getD-same}
 use Rattle.values.specs.Values.{coded, code, literalIn, assignedIn, Represents}
-use Rattle.values.specs.Readings.{readIn}
-use Rattle.values.specs.Marks.{placed}
+use Rattle.readings.specs.Readings.{readIn}
+use Rattle.values.specs.Values.{placed}
 use Rattle.values.proofs.Values.{assign-variable, represents-more}
-use Rattle.values.proofs.Readings.{read-represents, forced}
+use Rattle.readings.proofs.Readings.{read-represents, forced}
 use Rattle.rooms.specs.Held.{Zeros}
 use Rattle.derive.specs.Derivations.{misfitIn, falseIn, assumedIn, hinted}
 

@@ -11,7 +11,7 @@ use Rattle.paper.specs.Derivation.{Value, unassigned, is, assign, ending, follo
 use Rattle.paper.specs.declared.Reading.{Reading}
 use Rattle.paper.specs.declared.Reading.the-variants.{Forces}
 use Rattle.values.specs.Values.{literalIn, assignedIn}
-use Rattle.values.specs.Readings.{readIn}
+use Rattle.readings.specs.Readings.{readIn}
 use Rattle.rooms.specs.Held.{HeldIn, HeldRules, HeldDerived, HeldCounters, wishFamily}
 
 -- The rooms of every clause that a hint can name.

@@ -13,8 +13,8 @@ ghost use Rattle.paper.specs.Session.{Session, tallyOf, namedLiteral, ofWish, o
 ghost use Rattle.paper.specs.Derivation.{assume, misfit};
 ghost use Rattle.paper.specs.Runs.{Reached};
 ghost use Rattle.clauses.specs.Family.{Holds};
-ghost use Rattle.values.specs.Readings.{readIn};
-ghost use Rattle.values.specs.Marks.{unmarked};
+ghost use Rattle.readings.specs.Readings.{readIn};
+ghost use Rattle.marks.specs.Marks.{unmarked};
 ghost use Rattle.rooms.specs.Held.{HeldIn, HeldCounters, Zeros, wishFamily};
 ghost use Rattle.derive.specs.Derivations.{HeldClauses, ForcesOpen, hinted, misfitIn, assumedIn};
 use paper::Reading;
@@ -47,7 +47,7 @@ fn read_stored(
         → r ≡ readIn (now (low .entry) ++ now (high .entry)) (getD family number [])) ⌝ }
 {
     let clause = clauses::clause_of(literals, ends, count, number);
-    values::read(low, high, clause)
+    readings::read(low, high, clause)
 }
 
 // A wish clause is the stretch of its literals and then its wish variable.
@@ -69,8 +69,8 @@ fn read_wish(
         return Reading::StillOpen;
     }
     let clause = clauses::clause_of(literals, ends, count, number);
-    let reading = values::read(low, high, clause);
-    values::read_one(reading, low, high, (FIRST_WISH + number) as i32)
+    let reading = readings::read(low, high, clause);
+    readings::read_one(reading, low, high, (FIRST_WISH + number) as i32)
 }
 
 // Any two numbers of 32 bits will do: their product leaves room in 64.
@@ -101,7 +101,7 @@ fn read_counter(
     let clause = counters::counter_clause(members, start, number as usize);
     let literals = clause.literals;
     let length = clause.length;
-    values::read_on(Reading::AllFalse, low, high, &literals[..length])
+    readings::read_on(Reading::AllFalse, low, high, &literals[..length])
 }
 
 // The clause that a hint names, under the present values. Hints that name nothing have got 19 before this is asked: a clause that is
@@ -247,7 +247,7 @@ fn follow_hints(
                 };
             }
             Reading::Forces(literal) => {
-                values::assign_next(low, high, trail, assigned, literal, true);
+                marks::assign_next(low, high, trail, assigned, literal, true);
             }
             Reading::AlreadyTrue => {
                 return Followed {
@@ -285,7 +285,7 @@ fn assume(low: &mut [u8], high: &mut [u8], clause: &[i32], trail: &mut [i32]) ->
         let literal = clause[j];
         j += 1;
         if values::value(low, high, literal) == 0 {
-            values::assign_next(low, high, trail, count, literal, false);
+            marks::assign_next(low, high, trail, count, literal, false);
             count += 1;
         }
     }
@@ -359,6 +359,6 @@ pub fn misfit_of(
         &mut trail,
         assumed,
     );
-    values::take_back(&trail, followed.count, low, high);
+    marks::take_back(&trail, followed.count, low, high);
     followed.place
 }

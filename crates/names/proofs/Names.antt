@@ -24,8 +24,9 @@ use Rattle.paper.proofs.Costs.{reached-sound}
 use Rattle.paper.proofs.Reach.{reached-narrow}
 use Rattle.paper.proofs.Lists.{every-mono}
 use Rattle.clauses.proofs.Lists.{every-from}
-use Rattle.values.specs.Marks.{placed, fresh}
-use Rattle.values.proofs.Marks.{fresh-zeros}
+use Rattle.values.specs.Values.{placed}
+use Rattle.marks.specs.Marks.{fresh}
+use Rattle.marks.proofs.Marks.{fresh-zeros}
 use Rattle.rooms.specs.Held.{Zeros, inputsOf}
 use Rattle.names.specs.Names.{inCounter}
 

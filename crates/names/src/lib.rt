@@ -88,7 +88,7 @@ pub fn named_refusal(
     if !all_named(width, tally, counter_ends, clause) {
         return 17;
     }
-    if !values::distinct(clause, low, high) {
+    if !marks::distinct(clause, low, high) {
         return 18;
     }
     0

@@ -1,7 +1,8 @@
 -- Edge texts of the older form, with the answers that the description gives them.
 use mathlib.Core.List.{List, [], _∷_, map}
 use Prim.Native.Nat.{ℕ}
-use Rattle.paper.specs.Texts.{TextAnswer, textAnswer}
+use Rattle.paper.specs.declared.TextAnswer.{TextAnswer}
+use Rattle.paper.specs.Texts.{textAnswer}
 
 pub record Edge : Type 0 where
   pub text : List ℕ

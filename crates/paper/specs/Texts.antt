@@ -5,6 +5,8 @@ use Prim.Native.Nat.{ℕ, zero, suc, _+_, _*_, _-_, _/_, _%_}
 use lib.IntN.{ℤ, pos, negsuc}
 use lib.Dec.{eqb, leb, ltb}
 use lib.ListN.{length, drop, getD, replicate}
+use Rattle.paper.specs.declared.Header.{Header}
+use Rattle.paper.specs.declared.TextAnswer.{TextAnswer}
 use Rattle.paper.specs.Sizes.{narrow, mostVariables, mostWeight}
 use Rattle.paper.specs.Clauses.{Clause, every, pick}
 use Rattle.paper.specs.Session.{problemLiteral}
@@ -102,11 +104,6 @@ literalOf bytes = pick (minus bytes) (negsuc (value (unsigned bytes) - 1)) (pos 
 
 -- ── The header ──
 
-pub record Header : Type 0 where
-  pub variables : ℕ
-  pub clauses : ℕ
-  pub top : ℕ
-
 -- `p wcnf`
 abbrev pub headerStart : List ℕ
 headerStart = 112 ∷ 32 ∷ 119 ∷ 99 ∷ 110 ∷ 102 ∷ []
@@ -189,9 +186,9 @@ clauseRecord top weight c =
 -- ── Clauses ──
 
 -- What a text comes to: its records, or a number with the place of the fault.
-pub data Reading : Type 0 where
-  records : List Record → Reading
-  fault : ℕ → ℕ → Reading
+pub data Result : Type 0 where
+  records : List Record → Result
+  fault : ℕ → ℕ → Result
 
 -- Between two clauses, or in one: where it began, its weight, and its literals so far.
 pub data State : Type 0 where
@@ -203,8 +200,12 @@ abbrev pub clauseRefusal : Header → ℕ → Clause → ℕ
 clauseRefusal h weight c =
     lowest (refuse 15 (not (eqb weight (h .top)) && not (leb 1 weight && leb weight mostWeight)) ∷ admission narrow (problemLiteral (h .variables)) c)
 
+-- A clause is complete; `rest` is what its record and the words behind it lead to.
+abbrev pub complete : Header → ℕ → ℕ → Clause → Result → Result
+complete h at weight c rest = pick (ltb 0 (clauseRefusal h weight c)) (fault (clauseRefusal h weight c) at) rest
+
 -- `end` is the text's length, and `done` are the records so far, the opening among them.
-abbrev pub readOn : Header → ℕ → State → List Record → List Word → Reading
+abbrev pub readOn : Header → ℕ → State → List Record → List Word → Result
 readOn h end between done [] = pick (eqb (length done) (suc (h .clauses))) (records done) (fault 33 end)
 readOn h end (within at weight c) done [] = fault 32 end
 readOn h end between done (w ∷ ws) =
@@ -212,27 +213,21 @@ readOn h end between done (w ∷ ws) =
 readOn h end (within at weight c) done (w ∷ ws) =
     pick (not (literalWord (w .bytes))) (fault 31 (w .at))
     (pick (not (eqb (value (unsigned (w .bytes))) 0)) (readOn h end (within at weight (c ++ (literalOf (w .bytes) ∷ []))) done ws)
-    (pick (ltb 0 (clauseRefusal h weight c)) (fault (clauseRefusal h weight c) at)
-    (readOn h end between (done ++ (clauseRecord (h .top) weight c ∷ [])) ws)))
+    (complete h at weight c (readOn h end between (done ++ (clauseRecord (h .top) weight c ∷ [])) ws)))
 
 -- ── The whole text ──
 
-abbrev pub readText : List ℕ → Reading
+abbrev pub readText : List ℕ → Result
 readText text =
     pick (ltb mostText (length text) || not (headerForm text)) (fault 30 0)
     (pick (not (leb 1 (headerOf text .variables) && leb (headerOf text .variables) mostVariables)) (fault 14 (headerWord text 0 .at))
     (readOn (headerOf text) (length text) between (openRecord (headerOf text .variables) ∷ []) (clauseWords text)))
 
-pub record TextAnswer : Type 0 where
-  pub number : ℕ
-  pub position : ℕ
-  pub length : ℕ
-
 abbrev pub faultAnswer : ℕ → ℕ → TextAnswer
 faultAnswer number position = record { number = number; position = position; length = 0 }
 
 -- 34, where the lent room is too short, goes last.
-abbrev pub answerIn : ℕ → ℕ → Reading → TextAnswer
+abbrev pub answerIn : ℕ → ℕ → Result → TextAnswer
 answerIn end room (records rs) =
     pick (ltb room (length (allBytes rs))) (faultAnswer 34 end) (record { number = 0; position = end; length = length (allBytes rs) })
 answerIn end room (fault number position) = faultAnswer number position
@@ -244,7 +239,7 @@ textAnswer text room = answerIn (length text) room (readText text)
 abbrev pub filled : ℕ → List ℕ → List ℕ
 filled room bytes = pick (ltb room (length bytes)) (replicate room 0) (bytes ++ replicate (room - length bytes) 0)
 
-abbrev pub roomIn : ℕ → Reading → List ℕ
+abbrev pub roomIn : ℕ → Result → List ℕ
 roomIn room (records rs) = filled room (allBytes rs)
 roomIn room (fault number position) = replicate room 0
 

@@ -73,3 +73,20 @@ pub struct Outcome {
     pub tally: Tally,
     pub answer: Answer,
 }
+
+// The three numbers of a text's header.
+pub struct Header {
+    pub variables: u32,
+    pub clauses: u32,
+    pub top: u32,
+}
+
+// What reading a text answers.
+pub struct TextAnswer {
+    // 0, or the refusal
+    pub number: u32,
+    // the text's length, or the place of the fault
+    pub position: usize,
+    // of the records in bytes, 0 with a refusal
+    pub length: usize,
+}

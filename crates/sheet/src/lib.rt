@@ -102,7 +102,7 @@ pub fn rule(
         return refused(tally, 12);
     }
     let width = width_of(tally);
-    let number = values::problem_refusal(width.literals as usize, variables, clause, low, high);
+    let number = marks::problem_refusal(width.literals as usize, variables, clause, low, high);
     if number != 0 {
         return refused(tally, number);
     }
@@ -160,7 +160,7 @@ pub fn wish(
         return refused(tally, 15);
     }
     let width = width_of(tally);
-    let number = values::problem_refusal(width.literals as usize, variables, clause, low, high);
+    let number = marks::problem_refusal(width.literals as usize, variables, clause, low, high);
     if number != 0 {
         return refused(tally, number);
     }

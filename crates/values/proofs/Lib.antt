@@ -1,4 +1,2 @@
 -- The laws of this crate, for its functions and for those who call them.
 pub mod Values
-pub mod Readings
-pub mod Marks

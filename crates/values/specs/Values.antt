@@ -1,11 +1,13 @@
 -- An assignment in a room: a byte to each variable, at the variable's number. The room is two lent ones end to end, for one alone
 -- would pass 64 KiB. A variable past the end reads as unassigned.
 use mathlib.Core.Path.{_≡_}
-use mathlib.Core.Bool.{true, false}
+use mathlib.Core.Bool.{Bool, true, false}
 use mathlib.Core.List.{List}
 use Prim.Native.Nat.{ℕ, zero, suc, _<_}
+use lib.Dec.{ltb}
 use lib.IntN.{ℤ, pos, negsuc}
 use lib.ListN.{length, getD, set}
+use Rattle.paper.specs.Clauses.{variable}
 use Rattle.paper.specs.Derivation.{Value, unassigned, is, Assigned, opposite, variableValue}
 
 -- What a byte says.
@@ -29,6 +31,10 @@ assignedIn room x = set room (x .variable) (code (is (x .value)))
 
 abbrev pub unassignedIn : List ℕ → ℕ → List ℕ
 unassignedIn room v = set room v 0
+
+-- The literal's variable has a place in a room of that size.
+abbrev pub placed : ℕ → ℤ → Bool
+placed size l = ltb (variable l) size
 
 -- The room says of each variable that has a place in it what the assignment says.
 abbrev pub Represents : List ℕ → List Assigned → Type 0

@@ -11,7 +11,7 @@ use mir.Val.{toZ, ofZ}
 use borrow.Author.Needs.{needs}
 use Rattle.paper.specs.Derivation.{unassigned, assign}
 use Rattle.values.specs.Values.{code, coded, literalIn, assignedIn}
-use Rattle.values.specs.Marks.{unmarked}
+use Rattle.marks.specs.Marks.{unmarked}
 use Rattle.values.proofs.Values.{value-is}
 use Rattle.derive.specs.Derivations.{assumedIn}
 use Rattle.derive.proofs.Following.{assumed-none, assumed-more, false-kept}

@@ -16,7 +16,7 @@ use Rattle.paper.specs.Runs.{Reached}
 use Rattle.paper.specs.declared.Reading.the-variants.{AlreadyTrue, StillOpen}
 use Rattle.paper.proofs.Lists.{every-at}
 use Rattle.values.specs.Values.{literalIn, assignedIn}
-use Rattle.values.specs.Marks.{unmarked}
+use Rattle.marks.specs.Marks.{unmarked}
 use Rattle.derive.specs.Derivations.{HeldClauses, clauseOf, hinted, misfitIn}
 use Rattle.derive.proofs.Following.{follow-none, follow-by, follow-last, follow-early, follow-forces}
 use Rattle.derive.proofs.follow_hints.Statement.{statement}

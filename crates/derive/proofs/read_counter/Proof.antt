@@ -7,7 +7,7 @@ use borrow.Author.Needs.{needs}
 use Rattle.paper.specs.Clauses.{Clause}
 use Rattle.paper.specs.Session.{ofCounter, noCounter, hintClause}
 use Rattle.counters.specs.Numbered.{numbered}
-use Rattle.values.specs.Readings.{readIn}
+use Rattle.readings.specs.Readings.{readIn}
 use Rattle.rooms.specs.Held.{inputsOf}
 use Rattle.derive.proofs.Hints.{forces-open, counted, made-within, numbered-is}
 use Rattle.derive.proofs.read_counter.Statement.{statement}

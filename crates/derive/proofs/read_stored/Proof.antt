@@ -2,7 +2,7 @@
 use mathlib.Core.Path.{_∙_, ap}
 use mathlib.Core.List.{_++_}
 use borrow.Author.Needs.{needs}
-use Rattle.values.specs.Readings.{readIn}
+use Rattle.readings.specs.Readings.{readIn}
 use Rattle.derive.proofs.Hints.{forces-open}
 use Rattle.derive.proofs.read_stored.Statement.{statement}
 use Rattle.derive.proofs.read_stored.Tie as tie

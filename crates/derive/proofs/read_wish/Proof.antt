@@ -12,8 +12,8 @@ use borrow.Author.Tests.{ltb-true}
 use Rattle.paper.specs.Sizes.{wishVariable}
 use Rattle.paper.specs.Clauses.{Clause}
 use Rattle.paper.specs.Session.{Wish, noWish}
-use Rattle.values.specs.Readings.{readIn}
-use Rattle.values.proofs.Readings.{read-append}
+use Rattle.readings.specs.Readings.{readIn}
+use Rattle.readings.proofs.Readings.{read-append}
 use Rattle.clauses.proofs.Lists.{clash}
 use Rattle.rooms.specs.Held.{wishFamily}
 use Rattle.derive.proofs.Hints.{forces-open, counted}
