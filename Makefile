@@ -1,5 +1,5 @@
 # The project's commands; README.md says what they are for.
-.PHONY: worked independent test corpus fuzz bench
+.PHONY: worked independent test corpus fuzz fuzz-texts bench
 
 tally = independent/build/tally
 
@@ -7,10 +7,13 @@ tally = independent/build/tally
 # on a machine that is not x86-64 an empty RUN stands for the kit's emulator.
 RUNNER = target/bin/runner
 CORPUS = target/bin/corpus
+TEXT_CORPUS = target/bin/texts
+WCNF2REC = target/bin/wcnf2rec
 RUN =
 
-# How many seeds are compared and the first one; without one the clock chooses.
+# How many seeds are compared, runs or texts, and the first one; without one the clock chooses.
 SEEDS = 10000
+TEXTS = 10000
 FIRST =
 
 # The worked run of the description, each answer line with its meaning beside it.
@@ -33,6 +36,9 @@ corpus: independent
 # The verified programs against the independent one, on fresh seeds and in time.
 fuzz: independent
 	@RUN='$(RUN)' sh tools/fuzz.sh $(tally) $(RUNNER) $(CORPUS) $(SEEDS) $(FIRST)
+
+fuzz-texts: independent
+	@RUN='$(RUN)' sh tools/fuzz-texts.sh $(tally) $(TEXT_CORPUS) $(WCNF2REC) $(RUNNER) $(TEXTS) $(FIRST)
 
 bench: independent
 	@RUN='$(RUN)' sh tools/bench.sh $(tally) $(RUNNER)

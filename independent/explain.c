@@ -21,7 +21,8 @@ const char *sheet_fault_words(uint32_t number)
     case REPEATED_VARIABLE: return "this clause has one variable twice";
     case BAD_HEADER: return "the text is longer than 16384 bytes, or its header "
                             "\"p wcnf VARIABLES CLAUSES TOP\" is missing or malformed";
-    case BAD_WORD: return "this word is not a number that may stand here";
+    case BAD_WORD: return "this word is not a decimal number, or it is too large; a minus "
+                          "sign may stand before literals only";
     case OPEN_CLAUSE: return "the text ends inside a clause, before its 0";
     case BAD_CLAUSE_COUNT: return "the number of clauses is not the one in the header";
     case OUTPUT_TOO_SHORT: return "the room for the records is too short";

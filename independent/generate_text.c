@@ -1,6 +1,7 @@
 /* Older WCNF texts by seed: sound sheets in many layouts, sheets with one
  * fault or several, the edges of every limit, damage and noise. The kind
- * `edges` walks a fixed list, the seed being the place in it. */
+ * `edges` walks a fixed list, the seed being the place in it; so does `bytes`,
+ * which has every byte in four places. */
 #include "generate.h"
 
 #include <string.h>
@@ -237,12 +238,14 @@ static void text_counts(uint64_t seed, struct chance *chance, struct bytes *out)
     sheet_end(&sheet, out, draw_percent(chance, 5) ? UINT32_MAX : said);
 }
 
-/* Sheets of exactly the greatest length, one more or one less. */
+/* Sheets of exactly the greatest length, one more or one less, or well above
+ * it. */
 static void text_length(uint64_t seed, struct chance *chance, struct bytes *out)
 {
     static const char *const fillers[] = { "c\n", " ", "\n", "c long ", "1 0\n", "2 1 -2 0 " };
     uint32_t filler = draw_below(chance, 6);
-    size_t wanted = TEXT_GREATEST - 1 + draw_below(chance, 3);
+    size_t wanted = draw_percent(chance, 10) ? draw_between(chance, TEXT_GREATEST + 2, 20000)
+                                             : TEXT_GREATEST - 1 + draw_below(chance, 3);
     size_t step = strlen(fillers[filler]);
     struct bytes rest = { NULL, 0, 0 };
     uint32_t clauses = 0;
@@ -271,26 +274,65 @@ static void text_edges(uint64_t seed, struct chance *chance, struct bytes *out)
     write_edge((uint32_t)(seed % edge_count()), out);
 }
 
+/* Every byte behind and before words: at the head of the header's line, among
+ * its numbers, at the start of a line and behind a literal. */
+static void text_bytes(uint64_t seed, struct chance *chance, struct bytes *out)
+{
+    static const char *const before[] = { "", "p wcnf 9 0", "p wcnf 9 1 2\n", "p wcnf 9 1 2\n2 1" };
+    static const char *const behind[] = { "p wcnf 9 0 2\n", "2 \n", "\n2 0\n", "0\n" };
+    uint32_t place = (uint32_t)(seed / 256 % 4);
+    (void)chance;
+    put_string(out, before[place]);
+    put_1(out, (uint32_t)(seed % 256));
+    put_string(out, behind[place]);
+}
+
+/* Puts some bytes into a text, the rest of it moving on. */
+static void insert(struct bytes *text, uint32_t place, const uint8_t *bytes, uint32_t count)
+{
+    put_all(text, bytes, count);
+    memmove(text->data + place + count, text->data + place, text->length - count - place);
+    memcpy(text->data + place, bytes, count);
+}
+
+static void take_out(struct bytes *text, uint32_t place, uint32_t count)
+{
+    memmove(text->data + place, text->data + place + count, text->length - count - place);
+    text->length -= count;
+}
+
+/* A stretch of a text stands a second time somewhere, or is moved there. */
+static void spread(struct chance *chance, struct bytes *out, bool moved)
+{
+    uint8_t stretch[12];
+    uint32_t length = (uint32_t)out->length;
+    uint32_t count = draw_between(chance, 1, length < sizeof stretch ? length : sizeof stretch);
+    uint32_t from = draw_below(chance, length - count + 1);
+
+    memcpy(stretch, out->data + from, count);
+    if (moved)
+        take_out(out, from, count);
+    insert(out, draw_below(chance, (uint32_t)out->length + 1), stretch, count);
+}
+
 static void text_damaged(uint64_t seed, struct chance *chance, struct bytes *out)
 {
     static const char letters[] = "0123456789- \n\r\tcpw+x";
     text_sound(seed, chance, out);
     for (uint32_t times = draw_between(chance, 1, 3); times > 0; times--) {
         uint32_t place = draw_below(chance, (uint32_t)out->length);
-        uint32_t letter = (uint32_t)letters[draw_below(chance, sizeof letters - 1)];
-        uint32_t choice = draw_below(chance, 4);
-        if (choice == 3) {
+        uint8_t letter = (uint8_t)letters[draw_below(chance, sizeof letters - 1)];
+        uint32_t choice = draw_below(chance, 6);
+        if (choice >= 4)
+            spread(chance, out, choice == 5);
+        else if (choice == 3)
             out->length = place + 1;
-        } else if (choice == 2) {
-            put_1(out, 0);
-            memmove(out->data + place + 1, out->data + place, out->length - 1 - place);
-            out->data[place] = (uint8_t)letter;
-        } else if (choice == 1 && out->length > 1) {
-            memmove(out->data + place, out->data + place + 1, out->length - 1 - place);
-            out->length--;
-        } else {
-            out->data[place] = (uint8_t)letter;
-        }
+        else if (choice == 2)
+            insert(out, place, &letter, 1);
+        else if (choice == 1 && out->length > 1)
+            take_out(out, place, 1);
+        else
+            out->data[place] = letter;
     }
 }
 
@@ -331,8 +373,8 @@ static const struct {
 } kinds[] = {
     { "sound", text_sound },     { "words", text_words },   { "limits", text_limits },
     { "several", text_several }, { "counts", text_counts }, { "length", text_length },
-    { "edges", text_edges },     { "damaged", text_damaged }, { "soup", text_soup },
-    { "noise", text_noise }
+    { "edges", text_edges },     { "bytes", text_bytes },   { "damaged", text_damaged },
+    { "soup", text_soup },       { "noise", text_noise }
 };
 
 enum { KIND_COUNT = sizeof kinds / sizeof *kinds };

@@ -1,6 +1,6 @@
 /* The command line: runs records, reads sheets, assembles and disassembles
  * scripts, tells a run in words, generates runs and texts by seed, and writes,
- * replays and opens containers of runs. */
+ * replays and opens containers of runs and of texts. */
 #include <inttypes.h>
 #include <stdlib.h>
 #include <string.h>
@@ -11,6 +11,8 @@
 #include "generate.h"
 #include "records.h"
 #include "script.h"
+#include "text_container.h"
+#include "text_corpus.h"
 #include "wcnf.h"
 
 enum { USAGE_EXIT = 2 };
@@ -32,7 +34,11 @@ static int usage(const char *reason)
             "       tally container SEED COUNT      a container of runs, one for each seed\n"
             "       tally corpus < worked           the corpus, a container\n"
             "       tally replay < container        answer lines, run by run\n"
-            "       tally take NUMBER < container   the records of one run, counted from 1\n");
+            "       tally take NUMBER < container   the records of one run, counted from 1\n"
+            "       tally text-container SEED COUNT    a container of texts, one for each seed\n"
+            "       tally texts                     the corpus of texts, a container of them\n"
+            "       tally text-replay < texts       N NUMBER POSITION LENGTH SUM, text by text\n"
+            "       tally text-take NUMBER < texts  the bytes of one text, counted from 1\n");
     return USAGE_EXIT;
 }
 
@@ -140,7 +146,7 @@ static void say_fault(struct sheet_answer answer)
             column = 1;
         }
     }
-    fprintf(stderr, "tally: %" PRIu32 " at byte %zu, line %zu, column %zu: %s\n",
+    fprintf(stderr, "tally: refused (%" PRIu32 ") at byte %zu, line %zu, column %zu: %s\n",
             answer.number, answer.position, line, column, sheet_fault_words(answer.number));
 }
 
@@ -195,20 +201,31 @@ static int generate_text_command(int count, char **words)
     return generate_with(generate_text, count, words);
 }
 
-static int container_command(int count, char **words)
+static int contain_with(void (*put)(struct bytes *, uint64_t, uint64_t), char **words)
 {
     struct bytes container = { NULL, 0, 0 };
     uint64_t first;
-    uint64_t runs;
+    uint64_t seeds;
 
-    (void)count;
     if (!argument_number(words[0], UINT64_MAX, &first) ||
-        !argument_number(words[1], UINT64_MAX, &runs))
+        !argument_number(words[1], UINT64_MAX, &seeds))
         return usage("SEED and COUNT must be numbers from 0 to 18446744073709551615");
-    put_runs(&container, first, runs);
+    put(&container, first, seeds);
     write_output(container.data, container.length);
     bytes_free(&container);
     return 0;
+}
+
+static int container_command(int count, char **words)
+{
+    (void)count;
+    return contain_with(put_runs, words);
+}
+
+static int text_container_command(int count, char **words)
+{
+    (void)count;
+    return contain_with(put_texts, words);
 }
 
 static int corpus_command(int count, char **words)
@@ -226,42 +243,93 @@ static int corpus_command(int count, char **words)
     return 0;
 }
 
-static int replay_command(int count, char **words)
+static int texts_command(int count, char **words)
 {
-    static struct sink sink;
     struct bytes container = { NULL, 0, 0 };
 
     (void)count;
     (void)words;
+    put_text_corpus(&container);
+    write_output(container.data, container.length);
+    bytes_free(&container);
+    return 0;
+}
+
+static int replay_with(void (*replay_all)(const struct bytes *, struct sink *))
+{
+    static struct sink sink;
+    struct bytes container = { NULL, 0, 0 };
+
     put_file(&container, stdin);
     sink_begin(&sink, stdout);
-    replay(&container, &sink);
+    replay_all(&container, &sink);
     sink_flush(&sink);
     bytes_free(&container);
     return 0;
 }
 
-static int take_command(int count, char **words)
+static int replay_command(int count, char **words)
+{
+    (void)count;
+    (void)words;
+    return replay_with(replay);
+}
+
+static int text_replay_command(int count, char **words)
+{
+    (void)count;
+    (void)words;
+    return replay_with(replay_texts);
+}
+
+/* The next of a container, whatever it holds. */
+typedef bool next_bytes(const struct bytes *container, size_t *place,
+                        const uint8_t **bytes, size_t *length);
+
+static bool next_text(const struct bytes *container, size_t *place,
+                      const uint8_t **bytes, size_t *length)
+{
+    struct entry entry;
+
+    if (!next_entry(container, place, &entry))
+        return false;
+    *bytes = entry.text;
+    *length = entry.length;
+    return true;
+}
+
+static int take_with(next_bytes *next, const char *name, char **words)
 {
     struct bytes container = { NULL, 0, 0 };
-    const uint8_t *run = NULL;
+    const uint8_t *bytes = NULL;
     size_t length = 0;
     size_t place = 0;
     uint64_t wanted;
     uint64_t seen = 0;
 
-    (void)count;
     if (!argument_number(words[0], UINT64_MAX, &wanted) || wanted == 0)
         return usage("NUMBER must be a number from 1 on");
     put_file(&container, stdin);
-    while (seen < wanted && next_run(&container, &place, &run, &length))
+    while (seen < wanted && next(&container, &place, &bytes, &length))
         seen++;
     if (seen == wanted)
-        write_output(run, length);
+        write_output(bytes, length);
     else
-        fprintf(stderr, "tally: the container has only %" PRIu64 " runs\n", seen);
+        fprintf(stderr, "tally: the container has only %" PRIu64 " %s\n", seen, name);
     bytes_free(&container);
     return seen == wanted ? 0 : 1;
+}
+
+static int take_command(int count, char **words)
+{
+    (void)count;
+    return take_with(next_run, "runs", words);
+}
+
+static int text_take_command(int count, char **words)
+{
+    (void)count;
+    return take_with(next_text, "texts", words);
 }
 
 static const struct {
@@ -282,7 +350,11 @@ static const struct {
     { "container", 2, 2, container_command },
     { "corpus", 0, 0, corpus_command },
     { "replay", 0, 0, replay_command },
-    { "take", 1, 1, take_command }
+    { "take", 1, 1, take_command },
+    { "text-container", 2, 2, text_container_command },
+    { "texts", 0, 0, texts_command },
+    { "text-replay", 0, 0, text_replay_command },
+    { "text-take", 1, 1, text_take_command }
 };
 
 int main(int count, char **words)

@@ -209,7 +209,7 @@ check "unknown kind" "$? $(cat "$work/err")" \
     '2 tally: no kind is called "nothing"; tally names lists them'
 printf 'p wcnf 2 1 5\n5 1 x 0\n' | "$tally" text > "$work/out" 2> "$work/err"
 check "a refused sheet" "$? $(wc -c < "$work/out" | tr -d ' ') $(cat "$work/err")" \
-    "1 0 tally: 31 at byte 17, line 2, column 5: this word is not a number that may stand here"
+    "1 0 tally: refused (31) at byte 17, line 2, column 5: this word is not a decimal number, or it is too large; a minus sign may stand before literals only"
 printf 'open 3\nrule 1 x\n' | "$tally" assemble > "$work/out" 2> "$work/err"
 check "a refused script" "$? $(wc -c < "$work/out" | tr -d ' ') $(cat "$work/err")" \
     '1 0 tally: line 2: a literal must be a whole number of 32 bits, not "x"'
@@ -379,6 +379,186 @@ reach() {
 }
 check "reach of the corpus" "$(reach)" \
     "2048 16384 512 8192 4096 16384 128 512000000,1111111 1 11,11111"
+
+# --- containers of texts ------------------------------------------------------
+# The lines of a container of texts written in hexadecimal, joined by commas.
+text_replayed() {
+    printf 'bytes %s\n' "$*" | "$tally" assemble | "$tally" text-replay | paste -s -d , -
+}
+header=702077636e66203120302031 # p wcnf 1 0 1
+
+check "an empty container of texts" "$("$tally" text-replay < /dev/null)" ""
+check "rooms of an empty text" "$(text_replayed 00000000 00000000 03000000 00000000)" \
+    "1 30 0 0 1,2 30 0 0 196609"
+# Worked out by hand: the bytes 6 0 0 0 1 0 1 0 0 0, and zeros behind them.
+check "checksums" "$(text_replayed 0a000000 0c000000 $header 0c000000 0c000000 $header \
+    09000000 0c000000 $header)" "1 0 12 10 5242889,2 0 12 10 6422537,3 34 12 0 589825"
+check "a container that ends inside an entry's head" \
+    "$(text_replayed 00)|$(text_replayed 0a000000 0c0000)|$(text_replayed 00000000 00000000 00000000)" \
+    "||1 30 0 0 1"
+check "a container that ends inside a text" \
+    "$(text_replayed 0a000000 0f000000 $header)|$(text_replayed 00000000 0c000000)" \
+    "1 0 12 10 5242889|1 30 0 0 1"
+check "the greatest lengths" "$(text_replayed 00000100 204e0000)" "1 30 0 0 983041"
+check "a length above the greatest ends it" \
+    "$(text_replayed 00000000 00000000 01000100 00000000 00000000 00000000)|$(text_replayed \
+    00000000 00000000 00000000 214e0000)|$(text_replayed ffffffff ffffffff 00)" \
+    "1 30 0 0 1|1 30 0 0 1|"
+"$tally" text-container 40 3 > "$work/container"
+broken=
+for seed in 40 41 42; do
+    "$tally" text-take "$((seed - 39))" < "$work/container" > "$work/sheet"
+    "$tally" generate-text "$seed" | cmp -s - "$work/sheet" || broken="$broken $seed"
+    "$tally" text-container "$seed" 1 >> "$work/alone"
+done
+check "a container holds the texts of its seeds" "$broken" ""
+check "each in the room of its seed" "$(cmp "$work/container" "$work/alone" && echo same)" same
+"$tally" text-take 4 < "$work/container" > "$work/out" 2> "$work/err"
+check "a text that is not there" "$? $(wc -c < "$work/out" | tr -d ' ') $(cat "$work/err")" \
+    "1 0 tally: the container has only 3 texts"
+"$tally" text-take 0 < "$work/container" 2> "$work/err"
+check "texts count from 1" "$?" 2
+
+# --- the corpus of texts --------------------------------------------------------
+# Each line of the replay is put before the text's room and bytes, which are
+# taken out of the container here once more: N NUMBER POSITION LENGTH SUM ROOM
+# SIZE : BYTES;
+"$tally" texts > "$work/texts"
+"$tally" text-replay < "$work/texts" > "$work/replayed"
+od -An -v -tu1 "$work/texts" | awk '
+    function four(at) { return b[at] + 256 * (b[at + 1] + 256 * (b[at + 2] + 256 * b[at + 3])) }
+    { for (k = 1; k <= NF; k++) b[n++] = $k }
+    END {
+        for (at = 0; at < n; at += 8 + size) {
+            size = four(at + 4)
+            printf "%d %d :%s", four(at), size, size == 0 ? " " : ""
+            for (k = 0; k < size; k++) printf " %d", b[at + 8 + k]
+            print ";"
+        }
+    }' > "$work/entries"
+paste -d ' ' "$work/replayed" "$work/entries" > "$work/told"
+check "texts in the corpus" "$(($(grep -c . "$work/replayed") >= 200))" 1
+check "as many as there are entries" "$(grep -c . "$work/replayed")" "$(grep -c . "$work/entries")"
+check "size of the corpus of texts" "$(($(wc -c < "$work/texts") <= 1000000))" 1
+check "every number in the corpus of texts" "$(cut -d ' ' -f 2 "$work/replayed" |
+    sort -un | paste -s -d ' ' -)" "0 14 15 16 17 18 30 31 32 33 34"
+
+# The rooms of texts that are accepted somewhere: exactly long enough, longer, one
+# byte short, none; and those in which such a text did not get what it should.
+check "rooms in the corpus" "$(awk '
+    { number[NR] = $2; room[NR] = $6; bytes = $0; sub(/^[^:]*:/, "", bytes); key[NR] = bytes }
+    $2 == 0 { needed[bytes] = $4 }
+    END {
+        for (n = 1; n <= NR; n++) {
+            if (!(key[n] in needed)) continue
+            over = room[n] - needed[key[n]]
+            if (number[n] != (over < 0 ? 34 : 0)) wrong++
+            exact += over == 0; longer += over > 0; short += over == -1; none += room[n] == 0
+        }
+        print (exact >= 40), (longer >= 40), (short >= 40), (none >= 40), wrong + 0
+    }' "$work/told")" "1 1 1 1 0"
+
+# How long texts get, and which numbers those around the greatest length do; the
+# most comment lines in one that is accepted and in one that is not.
+check "lengths in the corpus" "$(awk '
+    $7 >= 16384 && !seen[$7, $2]++ { count[$7 > 16385 ? "more" : $7]++ }
+    $7 > 16384 && ($2 != 30 || $3 != 0) { wrong++ }
+    $7 > longest { longest = $7 }
+    $7 > 16000 { lines = gsub(/10 99 /, ""); if (lines > most[$2 == 0]) most[$2 == 0] = lines }
+    END {
+        print (count[16384] >= 5), count[16385], (count["more"] >= 2), wrong + 0
+        print longest, most[1], most[0]
+    }' "$work/told" | paste -s -d ' ' -)" "1 1 1 0 20000 8185 8191"
+
+# A text that is in the corpus, and what it gets in the first room it is given.
+edge() { # text with printf escapes, expected number and position
+    text=$1
+    expected=$2
+    set -- $(printf "$text" | od -An -v -tu1)
+    check "edge $text" "$(grep -F ": $*;" "$work/told" | head -n 1 | cut -d ' ' -f 2,3)" "$expected"
+}
+edge '' '30 0'
+edge 'c only a comment' '30 0'
+edge 'p wcnf 1 0 1' '0 12'
+edge 'p wcnf 1 0 1\n' '0 13'
+edge ' p wcnf 1 0 1\n' '0 14'
+edge '\t\r\n p wcnf 1 0 1\n' '0 17'
+edge 'c\n\nc\n\np wcnf 1 0 1\n' '0 19'
+edge ' c\np wcnf 1 0 1\n' '30 0'
+edge 'p wcnf 1 0\n1\n' '30 0'
+edge 'p wcnf 1 0 1 1' '30 0'
+edge 'p wcnf1 0 1\n' '30 0'
+edge 'p wcnf 1 0 1c\n' '30 0'
+edge 'p wcnf 1 0' '30 0'
+edge 'p wcnf' '30 0'
+edge 'p wcnf -1 0 1\n' '30 0'
+edge 'p wcnf 01 00 001\n' '0 17'
+edge 'p wcnf 0 0 1\n' '14 7'
+edge 'p wcnf 2000 0 1\n' '0 16'
+edge 'p wcnf 2001 0 1\n' '14 7'
+edge 'p wcnf 4294967295 0 1\n' '14 7'
+edge 'p wcnf 4294967296 0 1\n' '30 0'
+edge 'p wcnf 1 4294967295 1\n' '33 22'
+edge 'p wcnf 1 4294967296 1\n' '30 0'
+edge 'p wcnf 1 0 4294967295\n' '0 22'
+edge 'p wcnf 1 0 4294967296\n' '30 0'
+edge 'p wcnf 2 1 5\n1 1 2 0\n' '0 21'
+edge 'p wcnf 2 1 1\n0 1 2 0\n' '15 13'
+edge 'p wcnf 2 1 0\n0 1 2 0\n' '0 21'
+edge 'p wcnf 2 1 5\n1000000 1 0\n' '0 25'
+edge 'p wcnf 2 1 5\n1000001 1 0\n' '15 13'
+edge 'p wcnf 2 1 1000001\n1000001 1 0\n' '0 31'
+edge 'p wcnf 2 1 5\n4294967295 1 0\n' '15 13'
+edge 'p wcnf 2 1 5\n4294967296 1 0\n' '31 13'
+edge 'p wcnf 2 1 5\n-1 1 0\n' '31 13'
+edge 'p wcnf 2 1 0\n-0 1 0\n' '31 13'
+edge 'p wcnf 2 1 5\n0005 1 0\n' '0 22'
+edge 'p wcnf 2 1 5\n5 1 -0\n' '31 17'
+edge 'p wcnf 2 1 5\n5 1 -00 0\n' '31 17'
+edge 'p wcnf 2 1 5\n5 - 1 0\n' '31 15'
+edge 'p wcnf 2 1 5\n5 --1 0\n' '31 15'
+edge 'p wcnf 2 1 5\n5 +1 0\n' '31 15'
+edge 'p wcnf 2 1 5\n5 1- 0\n' '31 15'
+edge 'p wcnf 2 1 5\n5 -1 -02 000\n' '0 26'
+edge 'p wcnf 2 1 5\n5 2147483647 0\n' '17 13'
+edge 'p wcnf 2 1 5\n5 2147483648 0\n' '31 15'
+edge 'p wcnf 2 1 5\n5 -2147483647 0\n' '17 13'
+edge 'p wcnf 2 1 5\n5 -2147483648 0\n' '31 15'
+edge 'p wcnf 2 1 5\n5 3 0\n' '17 13'
+edge 'p wcnf 2 1 5\n5 1 1 0\n' '18 13'
+edge 'p wcnf 2 1 5\n5 1 -1 0\n' '18 13'
+edge 'p wcnf 2 1 5\n5 1 1 3 0\n' '17 13'
+edge 'p wcnf 2 1 5\n5 1 1 x\n' '31 19'
+edge 'p wcnf 2 2 5\n5 1 0 5 2 0\n' '0 25'
+edge 'p wcnf 2 1 5\n5\n1\n2\n0\n' '0 21'
+edge 'p wcnf 2 1 5\n5 1\nc x\n2 0\n' '0 25'
+edge 'p wcnf 2 1 5\n5 1\n c x\n2 0\n' '31 18'
+edge 'p wcnf 2 1 5\n5 1\nc0\n0\nc\n' '0 24'
+edge 'p wcnf 1 0 1\nc' '0 14'
+edge 'p wcnf 1 0 1\n c' '31 14'
+edge 'p wcnf 2 1 5\r\n5 1 0\r\n' '0 21'
+edge 'p wcnf 2 1 5\n\t5\t1\t0\t' '0 20'
+edge 'p wcnf 2 1 5\n5 1 0x\n' '31 17'
+edge 'p wcnf 2 1 5\n5 1\n' '32 17'
+edge 'p wcnf 2 1 5\n5' '32 14'
+edge 'p wcnf 2 0 5\n5 1 0\n' '33 19'
+edge 'p wcnf 2 2 5\n5 1 0\n' '33 19'
+rising() { # the literals of a clause, each third one negative
+    awk -v n="$1" 'BEGIN { for (v = 1; v <= n; v++) printf(v % 3 == 0 ? " -%d" : " %d", v) }'
+}
+edge "p wcnf 70 1 9\\n8$(rising 64) 0\\n" '0 222'
+edge "p wcnf 70 1 9\\n8$(rising 65) 0\\n" '16 14'
+# A clause with each set of the faults 15, 16, 17 and 18: the lowest counts.
+for set in 0 1 2 3 4 5 6 7 8 9 10 11 12 13 14 15; do
+    awk -v set="$set" 'BEGIN {
+        weight = set % 2; many = int(set / 2) % 2; above = int(set / 4) % 2; twice = int(set / 8)
+        printf "p wcnf 70 1 9\\n%d 1 -2", weight ? 0 : 8
+        for (v = 3; many && v <= 65; v++) printf " %d", v
+        print (above ? " -71" : "") (twice ? " 2" : "") " 0\\n"
+        print weight ? "15 14" : many ? "16 14" : above ? "17 14" : twice ? "18 14" : "0 23"
+    }' > "$work/faults"
+    edge "$(head -n 1 "$work/faults")" "$(tail -n 1 "$work/faults")"
+done
 
 # --- rules and wishes moved to the front -----------------------------------
 # What was accepted is put in again with rules and wishes first; the same

@@ -1,6 +1,7 @@
 /* The edges of the older WCNF form. Short ones are written out; those that
  * repeat something are described by a beginning, a piece with its number of
- * repetitions, and an end. */
+ * repetitions, and an end. Clauses around the greatest number of literals, and
+ * clauses with each set of the faults 15 to 18, are worked out. */
 #include "text_edges.h"
 
 static const char *const written_out[] = {
@@ -22,6 +23,7 @@ static const char *const written_out[] = {
     "p wcnf\t2\r1 \t 7\n7 1 0\n", "p wcnf 1 0 1c\n", "p wcnf 1 0 1\nc", "p wcnf 1 0 1\n c",
     /* weights and top */
     "p wcnf 2 1 5\n5 1 2 0\n", "p wcnf 2 1 5\n6 1 2 0\n", "p wcnf 2 1 5\n4 1 2 0\n",
+    "p wcnf 2 1 5\n1 1 2 0\n", "p wcnf 1 1 1\n1 1 0\n", "p wcnf 2000 1 5\n5 -2000 0\n",
     "p wcnf 2 1 0\n0 1 2 0\n", "p wcnf 2 1 1\n0 1 2 0\n", "p wcnf 2 1 5\n1000000 1 0\n",
     "p wcnf 2 1 5\n1000001 1 0\n", "p wcnf 2 1 1000001\n1000001 1 0\n",
     "p wcnf 2 1 4294967295\n4294967295 1 0\n", "p wcnf 2 1 5\n4294967295 1 0\n",
@@ -33,7 +35,7 @@ static const char *const written_out[] = {
     "p wcnf 2 1 5\n5 1", "p wcnf 2 1 5\n5 1\n", "p wcnf 2 1 5\n5 1 00\n",
     "p wcnf 2 1 5\n5 1 -0\n", "p wcnf 2 1 5\n5 1 -00 0\n", "p wcnf 2 1 5\n5 +1 0\n",
     "p wcnf 2 1 5\n5 - 1 0\n", "p wcnf 2 1 5\n5 --1 0\n", "p wcnf 2 1 5\n5 -1- 0\n",
-    "p wcnf 2 1 5\n5 1-2 0\n", "p wcnf 2 1 5\n5 -01 02 0\n", "p wcnf 2 1 5\n5 3 0\n",
+    "p wcnf 2 1 5\n5 1-2 0\n", "p wcnf 2 1 5\n5 1- 0\n", "p wcnf 2 1 5\n5 -1 -02 000\n", "p wcnf 2 1 5\n5 -01 02 0\n", "p wcnf 2 1 5\n5 3 0\n",
     "p wcnf 2 1 5\n5 -3 0\n", "p wcnf 2 1 5\n5 2147483647 0\n", "p wcnf 2 1 5\n5 2147483648 0\n",
     "p wcnf 2 1 5\n5 -2147483647 0\n", "p wcnf 2 1 5\n5 -2147483648 0\n",
     "p wcnf 2 1 5\n5 1 1 0\n", "p wcnf 2 1 5\n5 1 -1 0\n", "p wcnf 2 1 5\n5 1 2 1 0\n",
@@ -59,16 +61,22 @@ static const struct {
 } repeated[] = {
     { "", "c\n", 8000, "p wcnf 1 1 2\n2 1 0\n" },
     { "", "c\n", 8000, "" },
+    { "", "c\n", 8192, "" },
     { "", "c\n", 8185, "p wcnf 1 0 1\n\n" },
     { "p wcnf 1 1 2\n2 1\n", "c\n", 8000, "0\n" },
     { "p wcnf 1 0 1\n", "c\n", 8185, "c" },
     { "p wcnf 1 0 1\n", "c\n", 8185, "c\n" },
     { "p wcnf 1 0 1\n", "\n", 16371, "" },
     { "p wcnf 1 0 1\n", "\n", 16372, "" },
+    { "p wcnf 1 1 1\n", "\n", 16371, "" },
+    { "p wcnf 1 1 1\n1", " ", 16370, "" },
+    { "p wcnf 1 1 1\n", "\n", 16370, "x" },
     { "p wcnf 1 0 1", " ", 16372, "" },
     { "p wcnf 1 0 1", " ", 16373, "" },
     { "", " ", 16384, "" },
     { "", " ", 16385, "" },
+    { "p wcnf 1 0 1\n", "\n", 16373, "" },
+    { "p wcnf 1 0 1\n", "\n", 19987, "" },
     { "c", "x", 16383, "" },
     { "p wcnf ", "0", 16000, "1 0 1\n" },
     { "p wcnf 1 1 1\n", "0", 16000, "1 1 0\n" },
@@ -89,12 +97,13 @@ static const struct {
 enum {
     WRITTEN_COUNT = sizeof written_out / sizeof *written_out,
     REPEATED_COUNT = sizeof repeated / sizeof *repeated,
-    RISING_COUNT = 4
+    RISING_COUNT = 4,
+    FAULTS_COUNT = 16
 };
 
 uint32_t edge_count(void)
 {
-    return WRITTEN_COUNT + REPEATED_COUNT + RISING_COUNT;
+    return WRITTEN_COUNT + REPEATED_COUNT + RISING_COUNT + FAULTS_COUNT;
 }
 
 /* Clauses of 63 to 66 different variables. */
@@ -108,6 +117,27 @@ static void write_rising(uint32_t literals, struct bytes *out)
     put_string(out, " 0\n");
 }
 
+/* A clause with the faults of a set: weight 0 (15), literals 3 to 65 (16), one
+ * above n (17), one variable twice with the other sign (18). */
+static void write_faults(uint32_t set, struct bytes *out)
+{
+    put_string(out, set & 1 ? "p wcnf 70 1 9\n0 1 -2" : "p wcnf 70 1 9\n8 1 -2");
+    for (uint32_t variable = 3; set & 2 && variable <= 65; variable++) {
+        put_string(out, " ");
+        put_decimal(out, variable);
+    }
+    put_string(out, set & 4 ? " -71" : "");
+    put_string(out, set & 8 ? " 2 0\n" : " 0\n");
+}
+
+static void write_repeated(uint32_t number, struct bytes *out)
+{
+    put_string(out, repeated[number].beginning);
+    for (uint32_t time = 0; time < repeated[number].times; time++)
+        put_string(out, repeated[number].piece);
+    put_string(out, repeated[number].end);
+}
+
 void write_edge(uint32_t number, struct bytes *out)
 {
     if (number < WRITTEN_COUNT) {
@@ -115,12 +145,13 @@ void write_edge(uint32_t number, struct bytes *out)
         return;
     }
     number -= WRITTEN_COUNT;
-    if (number >= REPEATED_COUNT) {
-        write_rising(number - REPEATED_COUNT + 63, out);
+    if (number < REPEATED_COUNT) {
+        write_repeated(number, out);
         return;
     }
-    put_string(out, repeated[number].beginning);
-    for (uint32_t time = 0; time < repeated[number].times; time++)
-        put_string(out, repeated[number].piece);
-    put_string(out, repeated[number].end);
+    number -= REPEATED_COUNT;
+    if (number < RISING_COUNT)
+        write_rising(number + 63, out);
+    else
+        write_faults(number - RISING_COUNT, out);
 }

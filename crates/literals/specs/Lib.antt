@@ -1,0 +1,2 @@
+-- What the contract of this crate cites besides the paper.
+pub mod Reading

@@ -1,0 +1,4 @@
+-- The laws of this crate.
+mod Laws
+mod Clauses
+mod Whole

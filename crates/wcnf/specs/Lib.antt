@@ -1,0 +1,3 @@
+-- What the contracts of this crate cite besides the paper.
+pub mod Rooms
+pub mod Steps
