@@ -105,10 +105,3 @@ module _ {room bytes : List ℕ} {end : ℕ} {room′ : List ℕ} (P : Puts room
   cleared-behind h =
       rw (end-is h, P .fits (all-fits h) .bytes, le-ltb (length room) (length bytes) (all-fits h))
       (zeros-behind room bytes (all-fits h))
-
-  -- A room that is too short, and one whose text is refused, is cleared whole.
-  pub cleared-whole : take 0 room′ ++ replicate (length room′ - 0) 0 ≡ replicate (length room) 0
-  cleared-whole = let e : length room′ - 0 ≡ length room = omega (arith, P .same-length) in rw e
-
-  pub cleared-short : length room < end → take 0 room′ ++ replicate (length room′ - 0) 0 ≡ filled (length room) bytes
-  cleared-short h = cleared-whole ∙ rw (lt-ltb (length room) (length bytes) (none-fits h))

@@ -27,7 +27,7 @@ use Rattle.words.specs.Words.{wordsAt}
 use Rattle.headers.specs.declared.Heading.{Heading}
 use Rattle.headers.specs.Headings.{headingOf, noHeading}
 use Rattle.headers.proofs.Headers.{heading, heading-some, clause-words}
-use Rattle.output.proofs.Rooms.{all-fits, none-fits, end-is, cleared-behind, cleared-short}
+use Rattle.output.proofs.Rooms.{all-fits, none-fits, end-is, cleared-behind}
 use Rattle.wcnf.specs.declared.Step.{Step}
 use Rattle.wcnf.specs.Steps.{Came}
 
@@ -79,15 +79,12 @@ module _ (text : List ℕ) (short : length text ≤ mostText) (r : Heading) (e :
 
 -- ── The answer and the room ──
 
-abbrev cleared : List ℕ → ℕ → List ℕ
-cleared room at = take at room ++ replicate (length room - at) 0
-
 module _ (text room : List ℕ) (r : Step) (room′ : List ℕ) (C : Came (readText text) room r room′) where
   pub fault-answer : r .number ≢ 0 → faultAnswer (r .number) (r .position) ≡ textAnswer text (length room)
   fault-answer some = rw (C .faulty some)
 
-  pub fault-room : r .number ≢ 0 → cleared room′ 0 ≡ textRoom text (length room)
-  fault-room some = let e : length room′ - 0 ≡ length room = omega (arith, C .size) in rw (C .faulty some, e)
+  pub fault-room : r .number ≢ 0 → replicate (length room′) 0 ≡ textRoom text (length room)
+  fault-room some = rw (C .faulty some, C .size)
 
   module _ (none : r .number ≡ 0) where
     pub short-answer : length room < r .written → faultAnswer 34 (length text) ≡ textAnswer text (length room)
@@ -95,8 +92,10 @@ module _ (text room : List ℕ) (r : Step) (room′ : List ℕ) (C : Came (readT
         let M = C .sound none in
         rw (M .is, lt-ltb (length room) (length (allBytes (M .made))) (none-fits (M .stand) h))
 
-    pub short-room : length room < r .written → cleared room′ 0 ≡ textRoom text (length room)
-    short-room h = let M = C .sound none in rw (M .is) (cleared-short (M .stand) h)
+    pub short-room : length room < r .written → replicate (length room′) 0 ≡ textRoom text (length room)
+    short-room h =
+        let M = C .sound none in
+        rw (M .is, C .size, lt-ltb (length room) (length (allBytes (M .made))) (none-fits (M .stand) h))
 
     pub sound-answer : r .written ≤ length room
         → record { number = 0; position = length text; length = r .written } ≡ textAnswer text (length room)
@@ -104,5 +103,5 @@ module _ (text room : List ℕ) (r : Step) (room′ : List ℕ) (C : Came (readT
         let M = C .sound none in
         rw (M .is, le-ltb (length room) (length (allBytes (M .made))) (all-fits (M .stand) h), end-is (M .stand) h)
 
-    pub sound-room : r .written ≤ length room → cleared room′ (r .written) ≡ textRoom text (length room)
+    pub sound-room : r .written ≤ length room → take (r .written) room′ ++ replicate (length room′ - r .written) 0 ≡ textRoom text (length room)
     sound-room h = let M = C .sound none in rw (M .is) (cleared-behind (M .stand) h)

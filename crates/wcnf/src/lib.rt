@@ -9,7 +9,7 @@ ghost use lib.Dec.{eqb, leb};
 ghost use lib.ListN.{length, replicate};
 ghost use Rattle.paper.specs.Sizes.{mostWeight};
 ghost use Rattle.paper.specs.Clauses.{Clause};
-ghost use Rattle.paper.specs.Texts.{between, clauseRefusal, readOn, openRecord, readText, textAnswer, textRoom};
+ghost use Rattle.paper.specs.Texts.{between, clauseRefusal, readOn, openRecord, readText, faultAnswer, textAnswer, textRoom};
 ghost use Rattle.words.specs.Words.{wordsAt};
 ghost use Rattle.wcnf.specs.Rooms.{Keeps};
 ghost use Rattle.wcnf.specs.Steps.{OneClause, Came};
@@ -204,9 +204,12 @@ fn read_records(text: &[u8], out: &mut [u8]) -> Step
     read_clauses(text, heading.end, header, &mut literals, &mut low, &mut high, out)
 }
 
-fn refused(number: u32, position: usize) -> TextAnswer
-    ensures { λ r. ⌜ r ≡ record { number = number; position = position; length = 0 } ⌝ }
+// A refusal leaves the room all zeros, whatever was put there on the way.
+fn refuse(out: &mut [u8], number: u32, position: usize) -> TextAnswer
+    ensures answer { λ r. ⌜ r ≡ faultAnswer number position ⌝ }
+    ensures room { λ _. ⌜ now (out .exit) ≡ replicate (length (now (out .entry))) 0 ⌝ }
 {
+    output::zero_from(out, 0);
     TextAnswer {
         number: number,
         position: position,
@@ -222,12 +225,10 @@ pub fn read_text(text: &[u8], out: &mut [u8]) -> TextAnswer
 {
     let read = read_records(text, out);
     if read.number != 0 {
-        output::zero_from(out, 0);
-        return refused(read.number, read.position);
+        return refuse(out, read.number, read.position);
     }
     if out.len() < read.written {
-        output::zero_from(out, 0);
-        return refused(34, text.len());
+        return refuse(out, 34, text.len());
     }
     output::zero_from(out, read.written);
     TextAnswer {
