@@ -1,3 +1,4 @@
 -- What the contracts of this crate cite besides the paper.
+pub mod Tables
 pub mod Numbered
 pub mod Truths

@@ -1,14 +1,16 @@
 // The clauses of a counter by number, found by going down the halves: no clause is listed and none is stored. A counter
 // starts at 1,000,000 at most and has at most 384 variables, so that each of its variables is below 1,000,384.
-use super::tables::clauses_of;
-use super::tables::variables_of;
+use super::tables::CLAUSES;
+use super::tables::VARIABLES;
+use super::tables::entry_of;
 ghost use mathlib.Core.Path.{_≡_};
 ghost use mathlib.Core.List.{[]};
 ghost use Prim.Native.Nat.{_+_, _-_, _/_, _<_, _≤_};
 ghost use lib.IntN.{pos, negsuc};
 ghost use lib.ListN.{length};
 ghost use Rattle.paper.specs.Clauses.{Clause};
-ghost use Rattle.paper.specs.Counters.{output, previous, unless, sumClause, ownClauses, clauseAt, variablesOf};
+ghost use Rattle.paper.specs.Counters.{output, previous, unless, sumClause, ownClauses, clauseAt, variablesOf, clausesOf};
+ghost use Rattle.counters.specs.Tables.{tableOf};
 ghost use Rattle.counters.specs.Numbered.{counterOf, numbered, Holds, Found};
 
 // A clause of up to three literals. The entries past its length are 0.
@@ -97,7 +99,8 @@ fn first_output(inputs: &[i32], start: usize) -> usize
 }
 
 // A clause of the top node itself.
-fn node_clause(inputs: &[i32], start: usize, number: usize) -> Three
+fn node_clause(variables: &[u16; 65], inputs: &[i32], start: usize, number: usize) -> Three
+    requires { ⌜ now variables ≡ tableOf variablesOf ⌝ }
     requires { ⌜ (1 < length (now inputs)) × (length (now inputs) ≤ 64) ⌝ }
     requires { ⌜ start + variablesOf (length (now inputs)) ≤ 1000384 ⌝ }
     requires { ⌜ number < ownClauses (length (now inputs) / 2) (length (now inputs) - length (now inputs) / 2) ⌝ }
@@ -107,14 +110,23 @@ fn node_clause(inputs: &[i32], start: usize, number: usize) -> Three
     let half = size / 2;
     let columns = size - half + 1;
     let left = first_output(&inputs[..half], start + size);
-    let right = first_output(&inputs[half..], start + size + variables_of(half));
+    let right = first_output(&inputs[half..], start + size + entry_of(variables, half));
     let place = number + 1;
     sum_clause(left, right, start, place / columns, place % columns)
 }
 
 // The node that a clause belongs to, found by the halves: where its inputs begin among the counter's and how many they are, its first
 // variable, and the clause's number in it. It goes by numbers alone, so that a search costs no more than its steps.
-fn node_by_halves(from: usize, size: usize, start: usize, number: usize, node: &mut [usize; 4])
+fn node_by_halves(
+    variables: &[u16; 65],
+    clauses: &[u16; 65],
+    from: usize,
+    size: usize,
+    start: usize,
+    number: usize,
+    node: &mut [usize; 4],
+)
+    requires { ⌜ (now variables ≡ tableOf variablesOf) × (now clauses ≡ tableOf clausesOf) ⌝ }
     requires { ⌜ (size ≤ 64) × (from + size ≤ 64) × (start + variablesOf size ≤ 1000384) ⌝ }
     ensures { λ _. ⌜ Found from size start number (now (node .exit)) ⌝ }
 {
@@ -130,31 +142,54 @@ fn node_by_halves(from: usize, size: usize, start: usize, number: usize, node: &
         return;
     }
     let below = number - own;
-    let left = clauses_of(half);
+    let left = entry_of(clauses, half);
     if below < left {
-        node_by_halves(from, half, start + size, below, node);
+        node_by_halves(variables, clauses, from, half, start + size, below, node);
         return;
     }
-    let right_start = start + size + variables_of(half);
-    node_by_halves(from + half, others, right_start, below - left, node)
+    let right_start = start + size + entry_of(variables, half);
+    node_by_halves(
+        variables,
+        clauses,
+        from + half,
+        others,
+        right_start,
+        below - left,
+        node,
+    )
 }
 
-fn clause_by_halves(inputs: &[i32], start: usize, number: usize) -> Three
+fn clause_by_halves(
+    variables: &[u16; 65],
+    clauses: &[u16; 65],
+    inputs: &[i32],
+    start: usize,
+    number: usize,
+) -> Three
+    requires { ⌜ (now variables ≡ tableOf variablesOf) × (now clauses ≡ tableOf clausesOf) ⌝ }
     requires { ⌜ (length (now inputs) ≤ 64) × (start + variablesOf (length (now inputs)) ≤ 1000384) ⌝ }
     ensures { λ r. ⌜ Holds r (clauseAt (counterOf (now (inputs .entry))) start number) ⌝ }
 {
     let mut node: [usize; 4] = [0; 4];
-    node_by_halves(0, inputs.len(), start, number, &mut node);
+    node_by_halves(
+        variables,
+        clauses,
+        0,
+        inputs.len(),
+        start,
+        number,
+        &mut node,
+    );
     let from = node[0];
     let end = from + node[1];
     let part = &inputs[from..end];
     if part.len() < 2 {
         return no_clause();
     }
-    node_clause(part, node[2], node[3])
+    node_clause(variables, part, node[2], node[3])
 }
 
-// Clause `number` of the counter over the inputs' variables, whose own variables are numbered from `start` on.
+// The tables are named here, once a clause, and lent to the search. Clause `number` of the counter over the inputs' variables, whose own variables are numbered from `start` on.
 pub fn counter_clause(inputs: &[i32], start: usize, number: usize) -> Three
     ensures { λ r. ⌜ Holds r (numbered (now (inputs .entry)) start number) ⌝ }
 {
@@ -164,5 +199,7 @@ pub fn counter_clause(inputs: &[i32], start: usize, number: usize) -> Three
     if 1000000 < start {
         return no_clause();
     }
-    clause_by_halves(inputs, start, number)
+    let variables = VARIABLES;
+    let clauses = CLAUSES;
+    clause_by_halves(&variables, &clauses, inputs, start, number)
 }

@@ -1,10 +1,11 @@
 // The two tables: how many variables and how many clauses a counter has, by its number of inputs. A function that names a
-// table copies it to its stack at each call, so each table is named by one function and its entries are small.
+// table copies it to its stack at each call, so whoever looks up more than one entry names it once and lends it down.
 ghost use mathlib.Core.Path.{_≡_};
-ghost use Prim.Native.Nat.{_<_, _≤_};
+ghost use Prim.Native.Nat.{ℕ, _<_, _≤_};
 ghost use Rattle.paper.specs.Counters.{variablesOf, clausesOf};
+ghost use Rattle.counters.specs.Tables.{tableOf};
 
-const VARIABLES: [u16; 65] = [
+pub const VARIABLES: [u16; 65] = [
     0,
     0,
     2,
@@ -72,7 +73,7 @@ const VARIABLES: [u16; 65] = [
     384,
 ];
 
-const CLAUSES: [u16; 65] = [
+pub const CLAUSES: [u16; 65] = [
     0,
     0,
     3,
@@ -146,22 +147,24 @@ fn wide(entry: u16) -> usize
     entry as usize
 }
 
+// An entry of a table that is lent, whatever it is a table of.
+pub fn entry_of(table: &[u16; 65], inputs: usize) -> usize
+    ensures { λ r. ⌜ ((count : ℕ → ℕ) → now (table .entry) ≡ tableOf count
+        → (inputs ≤ 64 → r ≡ count inputs) × (64 < inputs → r ≡ 0)) ⌝ }
+{
+    if inputs <= 64 { wide(table[inputs]) } else { 0 }
+}
+
 pub fn variables_of(inputs: usize) -> usize
     ensures { λ r. ⌜ (inputs ≤ 64 → r ≡ variablesOf inputs) × (64 < inputs → r ≡ 0) ⌝ }
 {
-    if inputs <= 64 {
-        wide(VARIABLES[inputs])
-    } else {
-        0
-    }
+    let table = VARIABLES;
+    entry_of(&table, inputs)
 }
 
 pub fn clauses_of(inputs: usize) -> usize
     ensures { λ r. ⌜ (inputs ≤ 64 → r ≡ clausesOf inputs) × (64 < inputs → r ≡ 0) ⌝ }
 {
-    if inputs <= 64 {
-        wide(CLAUSES[inputs])
-    } else {
-        0
-    }
+    let table = CLAUSES;
+    entry_of(&table, inputs)
 }

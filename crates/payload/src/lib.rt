@@ -2,7 +2,7 @@
 // function is safe on bytes of any length and at any place; bytes that are missing count as zeros, as they do on paper.
 
 ghost use mathlib.Core.Path.{_≡_};
-ghost use Prim.Native.Nat.{_+_, _-_, _^_, _≤_, _<_};
+ghost use Prim.Native.Nat.{_+_, _*_, _-_, _^_, _≤_, _<_};
 ghost use lib.ListN.{length, take, drop};
 ghost use Rattle.paper.specs.Records.{number, numbersIn, signed, literals, arrangementForm};
 
@@ -121,16 +121,67 @@ pub fn of_bits(bits: u32) -> i32
     }
 }
 
-// As many literals as the lent part holds.
-pub fn copy_literals(bytes: &[u8], at: usize, clause: &mut [i32])
+// Each literal stands whole, so that nothing is asked in the loop.
+fn copy_whole_literals(bytes: &[u8], at: usize, clause: &mut [i32])
+    requires { ⌜ 4 * length (now clause) ≤ length (now bytes) - at ⌝ }
     ensures { λ _. ⌜ now (clause .exit) ≡ literals (length (now (clause .entry))) (drop at (now (bytes .entry))) ⌝ }
 {
     let mut place = at;
     let mut i: usize = 0;
     while i < clause.len() {
-        let bits = number_of_four(bytes, place);
+        let bits = four_bytes(bytes, place);
+        clause[i] = of_bits(bits);
+        place += 4;
+        i += 1;
+    }
+}
+
+fn copy_cut_literals(bytes: &[u8], at: usize, clause: &mut [i32])
+    ensures { λ _. ⌜ now (clause .exit) ≡ literals (length (now (clause .entry))) (drop at (now (bytes .entry))) ⌝ }
+{
+    let mut place = at;
+    let mut i: usize = 0;
+    while i < clause.len() {
+        let bits = short_of_four(bytes, place);
         clause[i] = of_bits(bits);
         place = after(bytes, place, 4);
+        i += 1;
+    }
+}
+
+// As many literals as the lent part holds.
+pub fn copy_literals(bytes: &[u8], at: usize, clause: &mut [i32])
+    ensures { λ _. ⌜ now (clause .exit) ≡ literals (length (now (clause .entry))) (drop at (now (bytes .entry))) ⌝ }
+{
+    if clause.len() <= left(bytes, at) / 4 {
+        copy_whole_literals(bytes, at, clause);
+    } else {
+        copy_cut_literals(bytes, at, clause);
+    }
+}
+
+// The same for hints.
+fn copy_whole_hints(bytes: &[u8], at: usize, words: &mut [u64])
+    requires { ⌜ 8 * length (now words) ≤ length (now bytes) - at ⌝ }
+    ensures { λ _. ⌜ now (words .exit) ≡ numbersIn 8 (length (now (words .entry))) (drop at (now (bytes .entry))) ⌝ }
+{
+    let mut place = at;
+    let mut i: usize = 0;
+    while i < words.len() {
+        words[i] = eight_bytes(bytes, place);
+        place += 8;
+        i += 1;
+    }
+}
+
+fn copy_cut_hints(bytes: &[u8], at: usize, words: &mut [u64])
+    ensures { λ _. ⌜ now (words .exit) ≡ numbersIn 8 (length (now (words .entry))) (drop at (now (bytes .entry))) ⌝ }
+{
+    let mut place = at;
+    let mut i: usize = 0;
+    while i < words.len() {
+        words[i] = short_of_eight(bytes, place);
+        place = after(bytes, place, 8);
         i += 1;
     }
 }
@@ -139,13 +190,10 @@ pub fn copy_literals(bytes: &[u8], at: usize, clause: &mut [i32])
 pub fn copy_hints(bytes: &[u8], at: usize, words: &mut [u64])
     ensures { λ _. ⌜ now (words .exit) ≡ numbersIn 8 (length (now (words .entry))) (drop at (now (bytes .entry))) ⌝ }
 {
-    let mut place = at;
-    let mut i: usize = 0;
-    while i < words.len() {
-        let word = number_of_eight(bytes, place);
-        words[i] = word;
-        place = after(bytes, place, 8);
-        i += 1;
+    if words.len() <= left(bytes, at) / 8 {
+        copy_whole_hints(bytes, at, words);
+    } else {
+        copy_cut_hints(bytes, at, words);
     }
 }
 

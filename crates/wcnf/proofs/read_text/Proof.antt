@@ -15,8 +15,10 @@ returns c =
     let C = c .before .before .before .before .before .before .before .before .read-records .ensures in
     let R = c .before .before .refuse .ensures in (
       R .0 ∙ fault-answer (a .text .now) (a .out .now) _ _ C (c .before .before .before .before .if1 .taken),
-      (R .1 ∙ fault-room (a .text .now) (a .out .now) _ _ C (c .before .before .before .before .if1 .taken),
-      omega (arith, ap (λ (x : TextAnswer). x .length) (R .0))),
+      (
+        R .1 ∙ fault-room (a .text .now) (a .out .now) _ _ C (c .before .before .before .before .if1 .taken),
+        omega (arith, ap (λ (x : TextAnswer). x .length) (R .0)),
+      ),
     )
 
 returns-2 : tie.Need-returns-2
@@ -26,8 +28,10 @@ returns-2 c =
     let R = c .before .before .refuse2 .ensures in
     let over : length (a .out .now) < c .before .before .before .before .before .before .before .before .before .before .read-records .result .written = omega (arith, C .size, c .before .before .before .before .if2 .taken) in (
       R .0 ∙ short-answer (a .text .now) (a .out .now) _ _ C (c .before .before .before .before .before .before .if1 .left) over,
-      (R .1 ∙ short-room (a .text .now) (a .out .now) _ _ C (c .before .before .before .before .before .before .if1 .left) over,
-      omega (arith, ap (λ (x : TextAnswer). x .length) (R .0))),
+      (
+        R .1 ∙ short-room (a .text .now) (a .out .now) _ _ C (c .before .before .before .before .before .before .if1 .left) over,
+        omega (arith, ap (λ (x : TextAnswer). x .length) (R .0)),
+      ),
     )
 
 returns-3 : tie.Need-returns-3

@@ -7,7 +7,7 @@ use Rattle.counters.proofs.numbered.clause_by_halves.Statement.{stateme
 use Rattle.counters.proofs.numbered.clause_by_halves.Tie as tie
 
 node-by-halves-requires : tie.Need-node-by-halves-requires
-node-by-halves-requires c κs = (omega arith, omega arith, omega arith)
+node-by-halves-requires c κs = (c .before .pre .0, (omega arith, omega arith, omega arith))
 
 array-read-from : tie.Need-array-read-from
 array-read-from c = omega (arith, c .node-by-halves .ensures .four)
@@ -40,8 +40,10 @@ node-clause-requires : tie.Need-node-clause-requires
 node-clause-requires c κs =
     let a = c .before .before .before .before .args in
     let k = c .before .before .node-by-halves .ensures in
-    let size = cut-long (a .inputs .now) (a .start) (a .number) _ k in
-    rw size ((omega (arith, size, c .if1 .left), omega (arith, k .fewer)), (omega (arith, k .room), k .own (omega (arith, size, c .if1 .left))))
+    let size = cut-long (a .inputs .now) (a .start) (a .number) _ k in (
+      c .before .before .before .before .pre .0 .0,
+      rw size ((omega (arith, size, c .if1 .left), omega (arith, k .fewer)), (omega (arith, k .room), k .own (omega (arith, size, c .if1 .left)))),
+    )
 
 returns-2 : tie.Need-returns-2
 returns-2 c =

@@ -3,6 +3,7 @@ use mathlib.Core.Path.{sym}
 use native.Mathlib.Omega.{arith}
 use borrow.Author.Needs.{needs}
 use lib.ListN.{length}
+use Rattle.paper.specs.Counters.{variablesOf}
 use Rattle.paper.proofs.Trees.{table-rule}
 use Rattle.counters.proofs.Halves.{half, others, left-length, right-length, within, own-small, own-clause}
 use Rattle.counters.proofs.numbered.node_clause.Statement.{statement}
@@ -14,20 +15,20 @@ slice-aggregate-first-output c = sym (left-length (c .before .args .inputs .now)
 first-output-requires : tie.Need-first-output-requires
 first-output-requires c κs =
     let xs = c .before .args .inputs .now in
-    let rule = table-rule (length xs) (c .before .pre .0 .0) .0 in
+    let rule = table-rule (length xs) (c .before .pre .1 .0 .0) .0 in
     omega (arith, left-length xs)
 
 add-first-output-3 : tie.Need-add-first-output-3
 add-first-output-3 c =
     let xs = c .before .before .before .before .args .inputs .now in
-    let rule = table-rule (length xs) (c .before .before .before .before .pre .0 .0) .0 in
-    omega (arith, c .variables-of .ensures .0 (omega arith))
+    let rule = table-rule (length xs) (c .before .before .before .before .pre .1 .0 .0) .0 in
+    omega (arith, c .entry-of .ensures variablesOf (c .before .before .before .before .pre .0) .0 (omega arith))
 
 first-output-requires-2 : tie.Need-first-output-requires-2
 first-output-requires-2 c κs =
     let xs = c .before .before .before .before .args .inputs .now in
-    let rule = table-rule (length xs) (c .before .before .before .before .pre .0 .0) .0 in
-    omega (arith, right-length xs, c .variables-of .ensures .0 (omega arith))
+    let rule = table-rule (length xs) (c .before .before .before .before .pre .1 .0 .0) .0 in
+    omega (arith, right-length xs, c .entry-of .ensures variablesOf (c .before .before .before .before .pre .0) .0 (omega arith))
 
 add-place : tie.Need-add-place
 add-place c =
@@ -38,8 +39,8 @@ sum-clause-requires : tie.Need-sum-clause-requires
 sum-clause-requires c κs =
     let args = c .before .before .before .before .before .args in
     let xs = args .inputs .now in
-    let rule = table-rule (length xs) (c .before .before .before .before .before .pre .0 .0) .0 in
-    let counts = within (half xs) (others xs) (args .number) (c .before .before .before .before .before .pre .1 .1) in
+    let rule = table-rule (length xs) (c .before .before .before .before .before .pre .1 .0 .0) .0 in
+    let counts = within (half xs) (others xs) (args .number) (c .before .before .before .before .before .pre .1 .1 .1) in
     omega (arith, left-length xs, right-length xs)
 
 returns : tie.Need-returns
@@ -47,8 +48,8 @@ returns c =
     let args = c .before .before .before .before .before .before .args in
     let pre = c .before .before .before .before .before .before .pre in
     let left = c .before .before .before .before .first-output .ensures .0 in
-    let right = rw (c .before .before .variables-of .ensures .0 (omega arith)) at (c .before .first-output2 .ensures .0) in
-    rw (own-clause (args .inputs .now) (pre .0 .0) (args .start) (args .number) _ _ left right (pre .1 .1))
+    let right = rw (c .before .before .entry-of .ensures variablesOf (c .before .before .before .before .before .before .pre .0) .0 (omega arith)) at (c .before .first-output2 .ensures .0) in
+    rw (own-clause (args .inputs .now) (pre .1 .0 .0) (args .start) (args .number) _ _ left right (pre .1 .1 .1))
     (c .sum-clause .ensures)
 
 pub node-clause-spec : {M : Type 1} → statement M

@@ -1,0 +1,60 @@
+-- `copy_whole_hints` meets its contract.
+use mathlib.Core.Path.{_≡_, refl}
+use mathlib.Core.List.{List}
+use Prim.Native.Nat.{ℕ, _+_, _*_, _-_}
+use native.Mathlib.Omega.{arith}
+use lib.ListN.{length, take}
+use borrow.Author.Needs.{needs}
+use Rattle.paper.specs.Records.{number, numbersIn}
+use Rattle.payload.proofs.Filling.{Filling, unwritten, filled-more, filled}
+use Rattle.payload.proofs.copy_whole_hints.Statement.{statement}
+use Rattle.payload.proofs.copy_whole_hints.Tie as tie
+
+abbrev Inv-loop : tie.InvT-loop
+Inv-loop bytes at words₀ place₀ i₀ words place i = (Filling (numbersIn 8) bytes at words₀ words place i) × (place ≡ at + 8 * i)
+
+abbrev μ-loop : tie.MeasureT-loop
+μ-loop bytes at words₀ place₀ i₀ words place i = length words₀ - i
+
+loop-holds : tie.Need-loop-holds Inv-loop μ-loop
+loop-holds c = let a = c .before .before .args in (unwritten (numbersIn 8) (a .bytes .now) (a .at) (a .words .now), omega arith)
+
+eight-bytes-requires : tie.Need-eight-bytes-requires Inv-loop μ-loop
+eight-bytes-requires c κs = omega (arith, c .before .loop .inv .1, c .loop-test .taken, c .before .before .before .before .pre)
+
+add-place : tie.Need-add-place Inv-loop μ-loop
+add-place c = omega (arith, c .before .before .loop .inv .1, c .before .loop-test .taken, c .before .before .before .before .before .pre)
+
+abbrev read : List ℕ → ℕ
+read bytes = number (take 8 bytes)
+
+loop-again : tie.Need-loop-again Inv-loop μ-loop
+loop-again c =
+    let a = c .before .before .before .before .before .args in
+    let o = c .before .before .loop in (
+      filled-more (numbersIn 8) (a .bytes .now) (a .at) (a .words .now) 8 read (λ n bytes. refl) (o .inv .0) (omega arith)
+          (c .eight-bytes .ensures) refl,
+      omega arith,
+    )
+
+returns : tie.Need-returns Inv-loop μ-loop
+returns c =
+    let a = c .before .before .before .before .args in
+    filled (numbersIn 8) (a .bytes .now) (a .at) (a .words .now) (λ bytes. refl) (c .before .loop .inv .0) (omega arith)
+
+pub copy-whole-hints-spec : {M : Type 1} → statement M
+copy-whole-hints-spec =
+    tie.close
+    (tie.spec
+    Inv-loop
+    μ-loop
+    loop-holds
+    eight-bytes-requires
+    (λ c. search needs)
+    (λ c. search needs)
+    add-place
+    (λ c. omega arith)
+    (λ c. omega arith)
+    loop-again
+    (λ c. search needs)
+    returns)
