@@ -1,5 +1,5 @@
 # The project's commands; README.md says what they are for.
-.PHONY: worked independent test corpus fuzz fuzz-texts bench
+.PHONY: worked independent test library corpus fuzz fuzz-texts bench
 
 tally = independent/build/tally
 
@@ -27,7 +27,11 @@ independent:
 test: independent
 	@$(MAKE) --silent --no-print-directory -C independent test
 	@sh tools/stored.sh check $(tally)
-	@rt ci
+	@RUN='$(RUN)' sh tools/gate.sh
+
+# The static library for C, proved and built, with the programs of examples/ on it.
+library:
+	@RUN='$(RUN)' sh tools/library.sh
 
 # Writes again what the verified programs read and what they have to print.
 corpus: independent

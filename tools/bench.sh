@@ -18,13 +18,6 @@ mkdir -p "$work/objects"
 trap 'rm -rf "$work"' EXIT
 trap 'exit 130' INT TERM
 
-# The kit's clang brings no headers of its own, so it is shown those of the
-# machine's compiler.
-header_words() {
-    LC_ALL=C "${CC:-gcc}" -E -v -x c /dev/null 2>&1 |
-        sed -n '/^#include </,/^End of/s/^ \(.*\)/-isystem \1/p'
-}
-
 build_yardstick() {
     objects=
     headers=$(header_words)

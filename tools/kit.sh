@@ -21,3 +21,10 @@ need_program() { # path, crate
     echo "$1 is not there: rt check $2 proves, builds and runs it" >&2
     exit 2
 }
+
+# The kit's clang brings no headers of its own, so it is shown those of the
+# machine's compiler.
+header_words() {
+    LC_ALL=C "${CC:-gcc}" -E -v -x c /dev/null 2>&1 |
+        sed -n '/^#include </,/^End of/s/^ \(.*\)/-isystem \1/p'
+}

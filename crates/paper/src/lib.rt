@@ -1,4 +1,4 @@
-// The types that the definitions, the code over them and its readers share.
+// The types that the definitions, the code over them and its readers share. Those that cross to C have its layout.
 
 // The sizes that go with the kind of the opening record. They are one value, so that laws and code are stated over them.
 pub struct Width {
@@ -11,6 +11,7 @@ pub struct Width {
 }
 
 // The counts of the four families and the bound, with n, which is 0 before the opening.
+#[repr(C)]
 pub struct Tally {
     pub variables: u32,
     pub rules: u32,
@@ -43,6 +44,7 @@ pub enum Answer {
 }
 
 // What an answer gives back: its number, and two values.
+#[repr(C)]
 pub struct Numbers {
     pub number: u32,
     pub first: u32,
@@ -82,6 +84,7 @@ pub struct Header {
 }
 
 // What reading a text answers.
+#[repr(C)]
 pub struct TextAnswer {
     // 0, or the refusal
     pub number: u32,
