@@ -16,32 +16,13 @@ wcnf2rec=$3
 runner=$4
 wanted=$5
 first=${6:-$(($(date +%s) * 1000000))}
-. "$(dirname "$0")/kit.sh"
-case $wanted$first in
-*[!0-9]* | "")
-    echo "TEXTS and FIRST are whole numbers, not \"$wanted\" and \"$first\"" >&2
-    exit 2
-    ;;
-esac
+. "$(dirname "$0")/compare.sh"
+need_numbers TEXTS "$wanted" "$first"
 need_program "$texts" texts
 need_program "$wcnf2rec" wcnf2rec
 need_program "$runner" runner
-
-batch=100
-kept=target/fuzz
-work=$kept/work.$$
-alone=0
 refused=0
 trips=0
-differences=0
-mkdir -p "$work"
-trap 'rm -rf "$work"' EXIT
-trap 'exit 130' INT TERM
-
-differs() { # name of the kept file, what differs, how to look at it
-    differences=$((differences + 1))
-    echo "DIFFERS: $2; it is kept as $kept/$1: $3"
-}
 
 # The numbers of the texts whose lines differ; a text that one side lacks differs.
 differing_texts() {

@@ -13,31 +13,12 @@ runner=$2
 corpus=$3
 seeds=$4
 first=${5:-$(($(date +%s) * 1000000))}
-. "$(dirname "$0")/kit.sh"
-case $seeds$first in
-*[!0-9]* | "")
-    echo "SEEDS and FIRST are whole numbers, not \"$seeds\" and \"$first\"" >&2
-    exit 2
-    ;;
-esac
+. "$(dirname "$0")/compare.sh"
+need_numbers SEEDS "$seeds" "$first"
 need_program "$runner" runner
 need_program "$corpus" corpus
-
-batch=100
-kept=target/fuzz
-work=$kept/work.$$
 runs=0
 records=0
-alone=0
-differences=0
-mkdir -p "$work"
-trap 'rm -rf "$work"' EXIT
-trap 'exit 130' INT TERM
-
-differs() { # name of the kept file, what differs, the command that reads it
-    differences=$((differences + 1))
-    echo "DIFFERS: $2; the input is kept as $kept/$1 for $3"
-}
 
 # The numbers of the runs whose lines differ; a run that one side lacks differs.
 differing_runs() {
@@ -75,12 +56,12 @@ compare_batch() { # first seed, count
         seed=$(($1 + number - 1))
         "$tally" take "$number" < "$work/container" > "$work/records" 2> /dev/null || continue
         cp "$work/records" "$kept/$seed.records"
-        differs "$seed.records" "corpus, seed $seed" "'$tally explain'"
+        differs "$seed.records" "corpus, seed $seed" "records for '$tally explain'"
     done
     # Nothing that a run alone shows, as a bad ending or lines outside the runs.
     if [ "$ended" -ne 0 ] || [ "$differences" -eq "$before" ]; then
         cp "$work/container" "$kept/$1.container"
-        differs "$1.container" "corpus, $2 seeds from $1, status $ended" "'$tally replay'"
+        differs "$1.container" "corpus, $2 seeds from $1, status $ended" "a container for '$tally replay'"
     fi
 }
 
@@ -92,7 +73,7 @@ compare_alone() { # name to keep it by, what it is; the records stand in the wor
     cat "$work/records" | $run "$runner" > "$work/came" || ended=$?
     [ "$ended" -ne 0 ] || ! cmp -s "$work/came" "$work/expected" || return 0
     cp "$work/records" "$kept/$1.records"
-    differs "$1.records" "runner, $2, status $ended" "'$tally explain'"
+    differs "$1.records" "runner, $2, status $ended" "records for '$tally explain'"
 }
 
 echo "seeds from $first; 'make fuzz FIRST=$first SEEDS=$seeds' repeats this"
