@@ -201,7 +201,15 @@ fn read_records(text: &[u8], out: &mut [u8]) -> Step
     let mut literals = [0i32; 64];
     let mut low = [0u8; 2001];
     let mut high = [0u8; 1];
-    read_clauses(text, heading.end, header, &mut literals, &mut low, &mut high, out)
+    read_clauses(
+        text,
+        heading.end,
+        header,
+        &mut literals,
+        &mut low,
+        &mut high,
+        out,
+    )
 }
 
 fn refused(number: u32, position: usize) -> TextAnswer

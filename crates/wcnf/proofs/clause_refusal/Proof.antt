@@ -19,8 +19,10 @@ returns-2 c =
     let a = c .before .before .before .before .before .args in
     let good = sym (c .before .before .bad-weight .ensures) ∙ c .before .if1 .left in (
       (refl, refl),
-      ((λ z. absurd (omega arith)),
-      λ size xs e K zeros wide. long (a .header) (a .weight) xs good (omega (arith, K .counted, e, c .if2 .taken))),
+      (
+        (λ z. absurd (omega arith)),
+        λ size xs e K zeros wide. long (a .header) (a .weight) xs good (omega (arith, K .counted, e, c .if2 .taken)),
+      ),
     )
 
 slice-aggregate-problem-refusal : tie.Need-slice-aggregate-problem-refusal
@@ -32,10 +34,12 @@ returns-3 c =
     let good = sym (c .before .before .before .before .before .before .before .before .before .before .bad-weight .ensures) ∙ c .before .before .before .before .before .before .before .before .before .if1 .left in
     let few = c .before .before .before .before .before .before .before .before .if2 .left in (
       c .before .before .before .before .problem-refusal .ensures .0,
-      ((λ z. few),
-      λ size xs e K zeros wide.
-          admitted (a .header) (a .weight) xs (c .before .before .before .before .problem-refusal .result) good
-          (c .before .before .before .before .problem-refusal .ensures .1 size narrow zeros wide refl ∙ rw (K .kept few))),
+      (
+        (λ z. few),
+        λ size xs e K zeros wide.
+            admitted (a .header) (a .weight) xs (c .before .before .before .before .problem-refusal .result) good
+            (c .before .before .before .before .problem-refusal .ensures .1 size narrow zeros wide refl ∙ rw (K .kept few)),
+      ),
     )
 
 pub clause-refusal-spec : {M : Type 1} → statement M

@@ -31,9 +31,11 @@ returns-2 c =
     let some = c .before .if2 .taken in
     let is = no-literals (a .text .now) (a .header) (a .start) (a .end) (W .0) (λ z. some (R .number-is ∙ z)) in (
       (refl, refl),
-      (ap length (R .room-is) ∙ length-sets (a .literals .now) 0 lits,
-      one-fault (a .text .now) (a .header) (a .start) (a .end) _ (a .at) _ _ _ _ (c .faulty2 .ensures) some refl
-      (λ done. rw (R .number-is, R .position-is) (is done))),
+      (
+        ap length (R .room-is) ∙ length-sets (a .literals .now) 0 lits,
+        one-fault (a .text .now) (a .header) (a .start) (a .end) _ (a .at) _ _ _ _ (c .faulty2 .ensures) some refl
+            (λ done. rw (R .number-is, R .position-is) (is done)),
+      ),
     )
 
 returns-3 : tie.Need-returns-3
@@ -71,10 +73,12 @@ returns-4 c =
     let few = c .before .before .before .before .before .before .before .before .before .before .clause-refusal .ensures .1 .0 (c .before .before .before .before .before .if3 .left) in
     let put = rw (W .1, K .kept few) at (c .before .before .put-clause .ensures) in (
       c .before .before .before .before .before .before .before .before .before .before .clause-refusal .ensures .0,
-      (same,
-      one-taken (a .text .now) (a .header) (a .start) (a .end) _ (a .at) _ _ _ refl (put-length (c .before .before .put-clause .ensures)) put
-      (R .further (c .before .before .before .before .before .before .before .before .before .before .before .before .before .before .if2 .left)) (R .within)
-      (allowed (a .text .now) (a .header) (a .start) (a .end) (W .0) whole (sym (c .before .before .before .before .before .if3 .left) ∙ number) _ (R .words-on))),
+      (
+        same,
+        one-taken (a .text .now) (a .header) (a .start) (a .end) _ (a .at) _ _ _ refl (put-length (c .before .before .put-clause .ensures)) put
+            (R .further (c .before .before .before .before .before .before .before .before .before .before .before .before .before .before .if2 .left)) (R .within)
+            (allowed (a .text .now) (a .header) (a .start) (a .end) (W .0) whole (sym (c .before .before .before .before .before .if3 .left) ∙ number) _ (R .words-on)),
+      ),
     )
 
 pub read-clause-spec : {M : Type 1} → statement M

@@ -13,8 +13,10 @@ returns c =
     let a = c .before .before .before .before .before .before .before .before .before .before .before .before .before .args in
     let C = c .before .before .before .before .before .before .before .before .before .read-records .ensures in (
       c .refused .ensures ∙ fault-answer (a .text .now) (a .out .now) _ _ C (c .before .before .before .before .before .if1 .taken),
-      (c .before .before .before .zero-from .ensures ∙ fault-room (a .text .now) (a .out .now) _ _ C (c .before .before .before .before .before .if1 .taken),
-      omega (arith, ap (λ (x : _). x .length) (c .refused .ensures))),
+      (
+        c .before .before .before .zero-from .ensures ∙ fault-room (a .text .now) (a .out .now) _ _ C (c .before .before .before .before .before .if1 .taken),
+        omega (arith, ap (λ (x : _). x .length) (c .refused .ensures)),
+      ),
     )
 
 returns-2 : tie.Need-returns-2
@@ -23,8 +25,10 @@ returns-2 c =
     let C = c .before .before .before .before .before .before .before .before .before .before .before .read-records .ensures in
     let over : length (a .out .now) < c .before .before .before .before .before .before .before .before .before .before .before .read-records .result .written = omega (arith, C .size, c .before .before .before .before .before .if2 .taken) in (
       c .refused2 .ensures ∙ short-answer (a .text .now) (a .out .now) _ _ C (c .before .before .before .before .before .before .before .if1 .left) over,
-      (c .before .before .before .zero-from2 .ensures ∙ short-room (a .text .now) (a .out .now) _ _ C (c .before .before .before .before .before .before .before .if1 .left) over,
-      omega (arith, ap (λ (x : _). x .length) (c .refused2 .ensures))),
+      (
+        c .before .before .before .zero-from2 .ensures ∙ short-room (a .text .now) (a .out .now) _ _ C (c .before .before .before .before .before .before .before .if1 .left) over,
+        omega (arith, ap (λ (x : _). x .length) (c .refused2 .ensures)),
+      ),
     )
 
 returns-3 : tie.Need-returns-3
