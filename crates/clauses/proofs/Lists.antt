@@ -1,13 +1,12 @@
 -- Laws of booleans and lists that know nothing of clauses.
 use mathlib.Core.Path.{_≡_, refl}
-use mathlib.Core.Bool.{Bool, true, false, _&&_}
+use mathlib.Core.Bool.{Bool, true, false}
 use mathlib.Core.List.{List, [], _∷_, _++_}
 use Prim.Native.Nat.{ℕ, zero, suc, _+_, _-_, _<_, _≤_}
 use native.Mathlib.Numerals.{add-one}
 use native.Mathlib.Omega.{arith}
 use lib.ListN.{length, drop, replicate, getD, set}
-use lib.Seq.{drop-cons, paste, paste-suc}
-use Rattle.paper.specs.Clauses.{every}
+use lib.Seq.{paste, paste-suc}
 
 -- What nothing can be: `clash (cc)` closes a case whose facts contradict each other.
 pub clash : {A : Type 0} → _≡_ {A = ℕ} 0 1 → A
@@ -20,11 +19,6 @@ pub drop-replicate : {A : Type 0} (a : A) (n m : ℕ) → drop m (replicate n a)
 drop-replicate a n zero = let e : n - 0 ≡ n = omega arith in rw e
 drop-replicate a zero (suc m) = let e : 0 - suc m ≡ 0 = omega arith in rw e
 drop-replicate a (suc n) (suc m) = let e : suc n - suc m ≡ n - m = omega arith in rw e (drop-replicate a n m)
-
--- A test of the elements from i on is a test of the one at i and of those after it.
-pub every-from : {A : Type 0} (p : A → Bool) (xs : List A) (i : ℕ) (d : A) → i < length xs
-    → every p (drop i xs) ≡ (p (getD xs i d) && every p (drop (i + 1) xs))
-every-from p xs i d h = rw (add-one, drop-cons xs i d)
 
 -- A list of one thing reads so at every place, if that is the default too.
 pub getD-same : {A : Type 0} (a : A) (n i : ℕ) → getD (replicate n a) i a ≡ a

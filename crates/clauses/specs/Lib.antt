@@ -1,5 +1,4 @@
 -- What the contracts of this crate cite besides the paper.
-pub mod Literals
 pub mod Family
 pub mod LookUp
 pub mod Lowest

@@ -1,5 +1,5 @@
-// Literals, and families of clauses in lent rooms: a clause by its number, one more clause, and the look-up of a rule or of a
-// derived clause as the very stretch of its room. Every function is safe on rooms of any content; what it says, it says of each
+// Families of clauses in lent rooms: a clause by its number, one more clause, and the look-up of a rule or of a derived clause as the
+// very stretch of its room. Every function is safe on rooms of any content; what it says, it says of each
 // family that the rooms hold.
 
 ghost use mathlib.Core.Path.{_≡_};
@@ -8,53 +8,9 @@ ghost use Prim.Native.Nat.{ℕ, _+_, _^_, _≤_, _<_};
 ghost use lib.IntN.{ℤ};
 ghost use lib.ListN.{length, getD};
 ghost use lib.Seq.{paste};
-ghost use Rattle.paper.specs.Clauses.{Clause, variable, every};
-ghost use Rattle.paper.specs.Session.{problemLiteral};
-ghost use Rattle.clauses.specs.Literals.{negative};
+ghost use Rattle.paper.specs.Clauses.{Clause};
 ghost use Rattle.clauses.specs.Family.{Holds, startIn, partOf, Appended};
 ghost use Rattle.clauses.specs.LookUp.{lookUp};
-
-// By complement and not by negation: the least i32 has no negative.
-pub fn variable_of(literal: i32) -> u32
-    ensures { λ r. ⌜ r ≡ variable literal ⌝ }
-{
-    if literal < 0 {
-        (!literal) as u32 + 1
-    } else {
-        literal as u32
-    }
-}
-
-pub fn is_negative(literal: i32) -> bool
-    ensures { λ r. ⌜ r ≡ negative literal ⌝ }
-{
-    literal < 0
-}
-
-// In a rule or a wish every literal is of the problem's variables.
-fn problem_literal(variables: u32, literal: i32) -> bool
-    ensures { λ r. ⌜ r ≡ problemLiteral variables literal ⌝ }
-{
-    let variable = variable_of(literal);
-    if variable < 1 {
-        return false;
-    }
-    variable <= variables
-}
-
-pub fn all_problem(variables: u32, clause: &[i32]) -> bool
-    ensures { λ r. ⌜ r ≡ every (problemLiteral variables) (now (clause .entry)) ⌝ }
-{
-    let mut i: usize = 0;
-    while i < clause.len() {
-        let literal = clause[i];
-        if !problem_literal(variables, literal) {
-            return false;
-        }
-        i += 1;
-    }
-    true
-}
 
 // An end as a place: a call, so that the end's bound comes with it.
 fn wide(end: u32) -> usize

@@ -25,7 +25,7 @@ fn run_next(number: u64) -> bool {
         return false;
     }
     let finish = stream::run(payload::number_of_four(&bytes, 0) as u64);
-    stream::skip(finish.unread);
+    buffers::skip(finish.unread);
     finish.written
 }
 

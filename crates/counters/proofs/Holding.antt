@@ -8,7 +8,7 @@ use lib.ListN.{length, getD, replicate, length-take, length-append, length-repli
 use Rattle.paper.specs.Clauses.{Clause}
 use Rattle.paper.specs.Counters.{previous, unless}
 use Rattle.counters.specs.Numbered.{Holds}
-use Rattle.counters.specs.declared.numbered.Three.{Three}
+use Rattle.counters.specs.declared.Three.{Three}
 
 module _ (room : Three) (clause : Clause) (h : Holds room clause) where
   long : room .length ≡ length clause

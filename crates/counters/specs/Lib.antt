@@ -1,4 +1,2 @@
 -- What the contracts of this crate cite besides the paper.
-pub mod Tables
 pub mod Numbered
-pub mod Truths

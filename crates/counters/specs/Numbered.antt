@@ -8,7 +8,7 @@ use lib.IntN.{pos}
 use lib.ListN.{length, take, drop, getD, replicate}
 use Rattle.paper.specs.Clauses.{Clause, variable, pick}
 use Rattle.paper.specs.Counters.{Tree, treeOf, ownClauses, clauseAt, variablesOf}
-use Rattle.counters.specs.declared.numbered.Three.{Three}
+use Rattle.counters.specs.declared.Three.{Three}
 
 -- The counter whose inputs are the variables of some literals.
 unfoldable pub counterOf : Clause → Tree

@@ -1,4 +1,3 @@
 -- The laws of this crate; callers cite those of Represented.
-pub mod Hints
 pub mod Following
 pub mod Represented

@@ -11,7 +11,7 @@ use lib.Seq.{drop-cons}
 use Rattle.paper.specs.Clauses.{Clause, Truth, variable, literalTrue, clauseTrue, pick}
 use Rattle.paper.specs.Truth.{arranged}
 use Rattle.paper.specs.Steps.{metBefore}
-use Rattle.clauses.specs.Literals.{negative}
+use Rattle.variables.specs.Literals.{negative}
 
 -- The bytes that an arrangement lacks count as zeros.
 pub beyond : (bytes : List ℕ) (v : ℕ) → length bytes ≤ (v - 1) / 8 → arranged bytes v ≡ false

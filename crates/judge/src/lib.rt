@@ -41,8 +41,8 @@ fn variable_holds(arrangement: &[u8], variable: u32) -> bool
 fn literal_holds(arrangement: &[u8], literal: i32) -> bool
     ensures { λ r. ⌜ r ≡ literalTrue (arranged (now (arrangement .entry))) literal ⌝ }
 {
-    let variable = clauses::variable_of(literal);
-    variable_holds(arrangement, variable) != clauses::is_negative(literal)
+    let variable = variables::variable_of(literal);
+    variable_holds(arrangement, variable) != variables::is_negative(literal)
 }
 
 pub fn clause_holds(arrangement: &[u8], clause: &[i32]) -> bool

@@ -44,7 +44,7 @@ fn mark(clause: &[i32], low: &mut [u8], high: &mut [u8]) -> usize
     let mut i: usize = 0;
     while i < clause.len() {
         let literal = clause[i];
-        let variable = clauses::variable_of(literal);
+        let variable = variables::variable_of(literal);
         if values::at(low, high, variable) != 0 {
             return i;
         }
@@ -107,7 +107,7 @@ pub fn problem_refusal(
     if most < clause.len() {
         return 16;
     }
-    if !clauses::all_problem(variables, clause) {
+    if !variables::all_problem(variables, clause) {
         return 17;
     }
     if !distinct(clause, low, high) {

@@ -23,7 +23,7 @@ use Rattle.paper.proofs.Bounds.{named-below}
 use Rattle.paper.proofs.Costs.{reached-sound}
 use Rattle.paper.proofs.Reach.{reached-narrow}
 use Rattle.paper.proofs.Lists.{every-mono}
-use Rattle.clauses.proofs.Lists.{every-from}
+use Rattle.variables.proofs.Every.{every-from}
 use Rattle.values.specs.Values.{placed}
 use Rattle.marks.specs.Marks.{fresh}
 use Rattle.marks.proofs.Marks.{fresh-zeros}

@@ -31,7 +31,7 @@ fn in_counter(width: Width, counter_ends: &[u32], past: u32) -> bool
         return false;
     }
     let inputs = clauses::size_of(counter_ends, past / stride);
-    ((past % stride) as usize) < counters::variables_of(inputs)
+    ((past % stride) as usize) < tables::variables_of(inputs)
 }
 
 // A literal of a derived clause names a problem, wish or counter variable.
@@ -39,7 +39,7 @@ fn named(width: Width, tally: Tally, counter_ends: &[u32], literal: i32) -> bool
     ensures { λ r. ⌜ ((s : Session) (inputs : List ℤ) → Reached s → width ≡ s .sheet .width → tally ≡ tallyOf s
         → HeldCounters inputs (now («counter_ends» .entry)) s → r ≡ namedLiteral (s .sheet) (s .work) literal) ⌝ }
 {
-    let variable = clauses::variable_of(literal);
+    let variable = variables::variable_of(literal);
     if variable < FIRST_WISH {
         if variable < 1 {
             return false;
@@ -121,7 +121,7 @@ fn hint_named(tally: Tally, counter_ends: &[u32], hint: u64) -> bool
     let second = parts.second;
     if family == 3 {
         let inputs = clauses::size_of(counter_ends, first);
-        return (second as usize) < counters::clauses_of(inputs);
+        return (second as usize) < tables::clauses_of(inputs);
     }
     if 0 < first {
         return false;

@@ -12,7 +12,7 @@ use lib.Seq.{take-suc, take-all, length-take-le, length-sets}
 use borrow.Author.Tests.{leb-true, leb-false, not-true, not-false}
 use Rattle.paper.specs.Clauses.{Clause, variable}
 use Rattle.paper.specs.Texts.{bytesFor, bitsOf, literalBytes, recordBytes}
-use Rattle.clauses.specs.Literals.{negative}
+use Rattle.variables.specs.Literals.{negative}
 use Rattle.clauses.proofs.Lists.{unlike}
 use Rattle.lines.specs.Lines.{Written}
 use Rattle.lines.proofs.Lines.{written-append}

@@ -29,8 +29,8 @@ fn has_place(room: usize, at: usize, bytes: usize, literals: usize) -> bool
 fn bits_of(literal: i32) -> u32
     ensures { λ r. ⌜ r ≡ bitsOf literal ⌝ }
 {
-    let variable = clauses::variable_of(literal);
-    if clauses::is_negative(literal) {
+    let variable = variables::variable_of(literal);
+    if variables::is_negative(literal) {
         return 4294967295 - (variable - 1);
     }
     variable

@@ -48,7 +48,7 @@ pub fn read_on(reading: Reading, low: &[u8], high: &[u8], part: &[i32]) -> Readi
 fn told_false(low: &[u8], literal: i32) -> bool
     ensures { λ r. ⌜ (r ≡ true → (rest : List ℕ) → literalIn (now (low .entry) ++ rest) literal ≡ is false) ⌝ }
 {
-    let place = clauses::variable_of(literal) as usize;
+    let place = variables::variable_of(literal) as usize;
     if low.len() <= place {
         return false;
     }

@@ -35,13 +35,13 @@ fn open_record(tally: Tally, payload: &[u8]) -> Outcome
         → r ≡ recordOutcome s (record { kind = 1; payload = now (payload .entry) })) ⌝ }
 {
     if 0 < tally.variables {
-        return sheet::refused(tally, 12);
+        return openings::refused(tally, 12);
     }
     if payload.len() != 4 {
-        return sheet::refused(tally, 13);
+        return openings::refused(tally, 13);
     }
     let variables = payload::number_of_four(payload, 0);
-    sheet::open_session(tally, variables)
+    openings::open_session(tally, variables)
 }
 
 // A rule with as many of the payload's literals as the lent part holds.
@@ -62,7 +62,7 @@ fn rule_with(
         (next s (rule (literalsIn (length (now (clause .entry))) (now (payload .entry)))))) ⌝ }
 {
     payload::copy_literals(payload, 0, clause);
-    sheet::rule(tally, literals, ends, low, high, clause)
+    rules::rule(tally, literals, ends, low, high, clause)
 }
 
 fn rule_record(
@@ -80,7 +80,7 @@ fn rule_record(
         × HeldRules (now (literals .exit)) (now (ends .exit)) (recordNext s (record { kind = 2; payload = now (payload .entry) }))) ⌝ }
 {
     if payload.len() % 4 != 0 {
-        return sheet::refused(tally, 13);
+        return openings::refused(tally, 13);
     }
     let mut clause = [0i32; 65];
     let count = looked_at(payload.len() / 4, 65);
@@ -119,7 +119,7 @@ fn wish_with(
 {
     let weight = payload::number_of_four(payload, 0);
     payload::copy_literals(payload, 4, clause);
-    sheet::wish(
+    wishes::wish(
         tally,
         literals,
         ends,
@@ -152,10 +152,10 @@ fn wish_record(
         × HeldWeights (now (left .exit)) outputs (recordNext s (record { kind = 3; payload = now (payload .entry) }))) ⌝ }
 {
     if payload.len() < 4 {
-        return sheet::refused(tally, 13);
+        return openings::refused(tally, 13);
     }
     if payload.len() % 4 != 0 {
-        return sheet::refused(tally, 13);
+        return openings::refused(tally, 13);
     }
     let mut clause = [0i32; 65];
     let count = looked_at(payload.len() / 4 - 1, 65);
@@ -203,7 +203,7 @@ fn derive_with(
 {
     payload::copy_literals(payload, 4, clause);
     payload::copy_hints(payload, start, hints);
-    work::derive(
+    derived::derive(
         tally,
         rules,
         rule_ends,
@@ -246,15 +246,15 @@ fn derive_record(
         (recordNext s (record { kind = 4; payload = now (payload .entry) }))) ⌝ }
 {
     if payload.len() < 4 {
-        return sheet::refused(tally, 13);
+        return openings::refused(tally, 13);
     }
     let literals = payload::number_of_four(payload, 0) as usize;
     let start = 4 + 4 * literals;
     if payload.len() < start {
-        return sheet::refused(tally, 13);
+        return openings::refused(tally, 13);
     }
     if (payload.len() - start) % 8 != 0 {
-        return sheet::refused(tally, 13);
+        return openings::refused(tally, 13);
     }
     let mut clause = [0i32; 65];
     let mut hints = [0u64; 257];
@@ -298,10 +298,10 @@ fn core_record(
         × HeldWeights (now (left .exit)) (now (outputs .exit)) (recordNext s (record { kind = 5; payload = now (payload .entry) }))) ⌝ }
 {
     if payload.len() != 4 {
-        return sheet::refused(tally, 13);
+        return openings::refused(tally, 13);
     }
     let number = payload::number_of_four(payload, 0);
-    work::core(
+    cores::core(
         tally,
         derived,
         derived_ends,
@@ -395,16 +395,16 @@ pub fn answer_record(
         (now (low .exit) ++ now (high .exit)) (recordNext s (record { kind = kind; payload = now (payload .entry) }))) ⌝ }
 {
     if kind < 1 {
-        return sheet::refused(tally, 11);
+        return openings::refused(tally, 11);
     }
     if 6 < kind {
-        return sheet::refused(tally, 11);
+        return openings::refused(tally, 11);
     }
     if kind == 1 {
         return open_record(tally, payload);
     }
     if tally.variables == 0 {
-        return sheet::refused(tally, 12);
+        return openings::refused(tally, 12);
     }
     if kind == 2 {
         return rule_record(tally, rules, rule_ends, low, high, payload);

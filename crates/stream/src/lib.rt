@@ -4,11 +4,10 @@
 // next; what the records of a block do is said, and proved, by the contract of `blocks::run_block`.
 
 ghost use mathlib.Core.Path.{_≡_};
-ghost use Prim.Native.Nat.{_+_, _-_, _^_, _≤_, _<_};
+ghost use Prim.Native.Nat.{_-_, _≤_};
 ghost use lib.ListN.{length, take};
-ghost use Rattle.stream.specs.Parts.{partOf};
+ghost use Rattle.buffers.specs.Parts.{partOf};
 use blocks::Progress;
-use libc::STDIN_FILENO;
 use libc::STDOUT_FILENO;
 use paper::Tally;
 
@@ -60,83 +59,21 @@ fn fresh(limit: u64) -> State {
     }
 }
 
-// A part of some bytes, or none of them where there is no such part.
-fn part(bytes: &[u8], start: usize, end: usize) -> &[u8]
-    ensures { λ r. ⌜ now r ≡ partOf (now (bytes .entry)) start end ⌝ }
-{
-    if start <= end {
-        if end <= bytes.len() {
-            return &bytes[start..end];
-        }
-    }
-    &bytes[..0]
-}
-
-// The bytes of a part go to the front; the answer is how many they are. They are few, less than a record, so that a test for each
-// costs nothing.
-fn move_to_front(bytes: &mut [u8], start: usize, end: usize) -> usize
-    ensures { λ r. ⌜ (start ≤ end → end ≤ length (now (bytes .entry))
-        → (r ≡ end - start) × (take r (now (bytes .exit)) ≡ partOf (now (bytes .entry)) start end)) ⌝ }
-{
-    let mut from = start;
-    let mut to: usize = 0;
-    while from < end {
-        if bytes.len() <= from {
-            return to;
-        }
-        bytes[to] = bytes[from];
-        from += 1;
-        to += 1;
-    }
-    to
-}
-
-fn least(a: u64, b: u64) -> u64
-    ensures { λ r. ⌜ (r ≤ a) × (r ≤ b) ⌝ }
-{
-    if a < b {
-        return a;
-    }
-    b
-}
-
-fn read_some(bytes: &mut [u8]) -> usize
-    ensures { λ r. ⌜ r ≤ length (now (bytes .entry)) ⌝ }
-{
-    let got = libc::read(STDIN_FILENO, bytes);
-    io::count(got, bytes)
-}
-
-// Reads once, behind so many bytes of the buffer, and answers how many came: none where the input has ended, where the read
-// fails, and where none may come.
-fn read_from(buffer: &mut [u8], from: usize, most: u64) -> usize
-    ensures within { λ r. ⌜ (r ≤ most) × (from + r < 2 ^ 64) ⌝ }
-    ensures kept { λ _. ⌜ (from ≤ length (now (buffer .entry)) → take from (now (buffer .exit)) ≡ take from (now (buffer .entry))) ⌝ }
-{
-    if buffer.len() < from {
-        return 0;
-    }
-    let room = least((buffer.len() - from) as u64, most) as usize;
-    let end = from + room;
-    read_some(&mut buffer[from..end])
-}
-
 // What is left of a block goes before what is read next, so that the record that it begins stands whole.
 fn refill(state: State, input: &mut [u8]) -> State
     ensures { λ r. ⌜ (state .start ≤ state .end → state .end ≤ length (now (input .entry))
         → (r .start ≡ 0) × (state .end - state .start ≤ r .end)
         × (take (state .end - state .start) (now (input .exit)) ≡ partOf (now (input .entry)) (state .start) (state .end))) ⌝ }
 {
-    let rest = move_to_front(input, state.start, state.end);
-    let got = read_from(input, rest, state.unread);
+    let filled = buffers::refill(input, state.start, state.end, state.unread);
     let tally = state.tally;
     State {
         tally: tally,
         place: state.place,
         start: 0,
-        end: rest + got,
-        unread: state.unread - got as u64,
-        last: got == 0,
+        end: filled.end,
+        unread: state.unread - filled.got,
+        last: filled.got == 0,
         written: state.written,
         over: state.over,
     }
@@ -203,12 +140,12 @@ fn turn(
         outputs,
         low,
         high,
-        part(input, state.start, state.end),
+        buffers::part(input, state.start, state.end),
         state.last,
         state.place,
         out,
     );
-    let written = io::write_all(STDOUT_FILENO, part(out, 0, done.written));
+    let written = io::write_all(STDOUT_FILENO, buffers::part(out, 0, done.written));
     let next = after(state, done, written);
     if next.over {
         return next;
@@ -263,18 +200,5 @@ pub fn run(limit: u64) -> Finish {
     Finish {
         unread: state.unread,
         written: state.written,
-    }
-}
-
-// Reads so many bytes of standard input, or what there is of them, and drops them.
-pub fn skip(count: u64) {
-    let mut space = [0u8; 65536];
-    let mut left = count;
-    while 0 < left {
-        let got = read_from(&mut space, 0, left) as u64;
-        if got == 0 {
-            return;
-        }
-        left -= got;
     }
 }

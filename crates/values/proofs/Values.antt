@@ -12,7 +12,7 @@ use lib.Seq.{getD-set-same, getD-set-other, set-set, set-getD}
 use borrow.Author.Tests.{eqb-true, eqb-false, ne-eqb}
 use Rattle.paper.specs.Clauses.{variable, pick}
 use Rattle.paper.specs.Derivation.{Value, unassigned, is, Assigned, assign, opposite, valueOr, variableValue, literalValue}
-use Rattle.clauses.specs.Literals.{negative}
+use Rattle.variables.specs.Literals.{negative}
 use Rattle.clauses.proofs.Lists.{clash, getD-same}
 use Rattle.values.specs.Values.{coded, code, literalIn, assignedIn, unassignedIn, Represents}
 

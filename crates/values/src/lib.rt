@@ -41,7 +41,7 @@ pub fn put(low: &mut [u8], high: &mut [u8], variable: u32, byte: u8)
 pub fn byte_for(literal: i32, truth: bool) -> u8
     ensures { λ r. ⌜ r ≡ code (is (assignment literal truth .value)) ⌝ }
 {
-    if clauses::is_negative(literal) {
+    if variables::is_negative(literal) {
         if truth {
             return 2;
         }
@@ -57,7 +57,7 @@ pub fn byte_for(literal: i32, truth: bool) -> u8
 pub fn value(low: &[u8], high: &[u8], literal: i32) -> u8
     ensures { λ r. ⌜ r ≡ code (literalIn (now (low .entry) ++ now (high .entry)) literal) ⌝ }
 {
-    let variable = clauses::variable_of(literal);
+    let variable = variables::variable_of(literal);
     let byte = at(low, high, variable);
     if byte == 0 {
         return 0;
@@ -69,7 +69,7 @@ pub fn assign(low: &mut [u8], high: &mut [u8], literal: i32, truth: bool)
     ensures { λ _. ⌜ now (low .exit) ++ now (high .exit)
         ≡ assignedIn (now (low .entry) ++ now (high .entry)) (assignment literal truth) ⌝ }
 {
-    let variable = clauses::variable_of(literal);
+    let variable = variables::variable_of(literal);
     let byte = byte_for(literal, truth);
     put(low, high, variable, byte);
 }
@@ -78,6 +78,6 @@ pub fn unassign(low: &mut [u8], high: &mut [u8], literal: i32)
     ensures { λ _. ⌜ now (low .exit) ++ now (high .exit)
         ≡ unassignedIn (now (low .entry) ++ now (high .entry)) (variable literal) ⌝ }
 {
-    let variable = clauses::variable_of(literal);
+    let variable = variables::variable_of(literal);
     put(low, high, variable, 0);
 }

@@ -18,8 +18,8 @@ use Rattle.paper.proofs.Trees.{true-at-most}
 use Rattle.paper.proofs.Costs.{reached-sound}
 use Rattle.paper.proofs.Reach.{reached-narrow}
 use Rattle.clauses.specs.Family.{Holds}
-use Rattle.counters.specs.Truths.{trueBytes}
-use Rattle.counters.proofs.Ones.{at-most, true-among}
+use Rattle.truths.specs.Truths.{trueBytes}
+use Rattle.truths.proofs.Ones.{at-most, true-among}
 use Rattle.weights.specs.Weights.{outputTable}
 use Rattle.weights.proofs.Places.{quotient, remainder}
 use Rattle.rooms.specs.Held.{counterRoom, inputsOf}

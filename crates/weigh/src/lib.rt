@@ -13,7 +13,7 @@ ghost use Rattle.paper.specs.Clauses.{Truth, only};
 ghost use Rattle.paper.specs.Session.{Session, tallyOf, remaining};
 ghost use Rattle.paper.specs.Truth.{arranged, meets, cost, truth, weightOn};
 ghost use Rattle.paper.specs.Runs.{Reached};
-ghost use Rattle.counters.specs.Truths.{trueBytes};
+ghost use Rattle.truths.specs.Truths.{trueBytes};
 ghost use Rattle.weights.specs.Weights.{outputTable};
 ghost use Rattle.rooms.specs.Held.{HeldIn, HeldCounters, HeldWeights, wishFamily};
 ghost use Rattle.weigh.specs.Weighing.{wishSum, outputSum, counterSum};
@@ -158,7 +158,7 @@ fn gather(width: Width, inputs: &[i32], broken: &[u8], counts: &[u8], truths: &m
 {
     let mut gathered: usize = 0;
     while gathered < inputs.len() {
-        let input = clauses::variable_of(inputs[gathered]);
+        let input = variables::variable_of(inputs[gathered]);
         truths[gathered] = truth_of(width, broken, counts, input);
         gathered += 1;
     }
@@ -177,7 +177,7 @@ fn true_count(width: Width, inputs: &[i32], broken: &[u8], counts: &[u8]) -> u8
     }
     let mut truths: [u8; MOST_INPUTS] = [0; MOST_INPUTS];
     gather(width, inputs, broken, counts, &mut truths);
-    counters::true_inputs(&truths[..size]) as u8
+    truths::true_inputs(&truths[..size]) as u8
 }
 
 // The first place of a counter's outputs. The product of two numbers of 32 bits fits into 64, whatever the width, and so does
@@ -286,7 +286,7 @@ pub fn weigh(
         × (meets (s .sheet) (arranged (now (arrangement .entry))) ≡ true
         → r ≡ cost (s .sheet) (arranged (now (arrangement .entry))))) ⌝ }
 {
-    let width = sheet::width_of(tally);
+    let width = openings::width_of(tally);
     let wishes = tally.wishes;
     let count = tally.counters;
     if MOST_WISHES < wishes {

@@ -15,7 +15,7 @@ use Rattle.paper.specs.Clauses.{Clause, variable, positive, every, only}
 use Rattle.paper.specs.Session.{spread}
 use Rattle.paper.specs.Steps.{leastFrom, least}
 use Rattle.paper.proofs.Lists.{and-split, every-at, every-snoc}
-use Rattle.clauses.specs.Literals.{negative}
+use Rattle.variables.specs.Literals.{negative}
 use Rattle.weights.specs.Weights.{Elsewhere, isMember, memberWeight, leastMember}
 
 -- ── One literal ──

@@ -108,10 +108,10 @@ fn member_weight(width: paper::Width, wishes: &[u32], outputs: &[u32], literal: 
     ensures { λ r. ⌜ ((f : ℕ → ℕ) → Spaced width → Weighs width (now (wishes .entry)) (now (outputs .entry)) f
         → Elsewhere width f → r ≡ memberWeight f literal) ⌝ }
 {
-    if clauses::is_negative(literal) {
+    if variables::is_negative(literal) {
         return 0;
     }
-    weight_of(width, wishes, outputs, clauses::variable_of(literal))
+    weight_of(width, wishes, outputs, variables::variable_of(literal))
 }
 
 // The least weight of the members: 0 exactly where the clause is no core, which 22 refuses.
@@ -166,7 +166,7 @@ pub fn lower(
 {
     let mut lowered: usize = 0;
     while lowered < clause.len() {
-        let member = clauses::variable_of(clause[lowered]);
+        let member = variables::variable_of(clause[lowered]);
         lower_one(width, wishes, outputs, member, weight);
         lowered += 1;
     }

@@ -1,5 +1,5 @@
 -- `worked_run` meets its contract: zeroed rooms keep the fresh session, and the definitions' run of the bytes has the worked lines.
-use mathlib.Core.Path.{_≡_, refl, ap, _∙_}
+use mathlib.Core.Path.{_≡_, refl, sym, ap, _∙_}
 use mathlib.Core.Bool.{true}
 use mathlib.Core.List.{List}
 use lib.ListN.{length}
@@ -9,6 +9,7 @@ use Rattle.paper.specs.Session.{fresh}
 use Rattle.paper.specs.Runs.{Line}
 use Rattle.paper.specs.Inputs.{text}
 use Rattle.paper.specs.Worked.{inputBytes}
+use Rattle.paper.proofs.Promised.{worked-lines, by-steps}
 use Rattle.rooms.proofs.Kept.{nothing-kept}
 use Rattle.blocks.specs.declared.Progress.{Progress}
 use Rattle.blocks.specs.Blocks.{takenFrom, linesIn}
@@ -16,8 +17,12 @@ use Rattle.caller.specs.Worked.{workedLines}
 use Rattle.caller.proofs.worked_run.Statement.{statement}
 use Rattle.caller.proofs.worked_run.Tie as tie
 
+-- As in the paper's own proof, what is computed is held to the lines as they are printed.
+in-one-block : linesIn true 1 fresh inputBytes (takenFrom 1 inputBytes) ≡ worked-lines
+in-one-block = refl
+
 lines : linesIn true 1 fresh inputBytes (takenFrom 1 inputBytes) ≡ workedLines
-lines = refl
+lines = in-one-block ∙ sym by-steps
 
 returns : tie.Need-returns
 returns c =

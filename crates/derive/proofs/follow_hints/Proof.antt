@@ -17,7 +17,8 @@ use Rattle.paper.specs.declared.Reading.the-variants.{AlreadyTrue, StillOpen}
 use Rattle.paper.proofs.Lists.{every-at}
 use Rattle.values.specs.Values.{literalIn, assignedIn}
 use Rattle.marks.specs.Marks.{unmarked}
-use Rattle.derive.specs.Derivations.{HeldClauses, clauseOf, hinted, misfitIn}
+use Rattle.hints.specs.Hinted.{HeldClauses}
+use Rattle.derive.specs.Derivations.{clauseOf, hinted, misfitIn}
 use Rattle.derive.proofs.Following.{follow-none, follow-by, follow-last, follow-early, follow-forces}
 use Rattle.derive.proofs.follow_hints.Statement.{statement}
 use Rattle.derive.proofs.follow_hints.Tie as tie

@@ -5,7 +5,7 @@ use mir.Syntax.{w32}
 use mir.Val.{toZ, ofZ}
 use borrow.Author.Needs.{needs}
 use Rattle.paper.specs.Clauses.{variable}
-use Rattle.clauses.specs.Literals.{negative}
+use Rattle.variables.specs.Literals.{negative}
 use Rattle.output.proofs.Bytes.{negative-some, negative-bits, other-bits}
 use Rattle.output.proofs.bits_of.Statement.{statement}
 use Rattle.output.proofs.bits_of.Tie as tie

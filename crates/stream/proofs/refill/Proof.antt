@@ -1,7 +1,6 @@
--- `refill` meets its contract: what was left stands at the front, and what is read stands behind it.
-use mathlib.Core.Path.{refl, sym, ap, _∙_}
+-- `refill` meets its contract, which is that of `buffers::refill` said of the state.
+use mathlib.Core.Path.{refl}
 use native.Mathlib.Omega.{arith}
-use lib.ListN.{take}
 use borrow.Author.Needs.{needs}
 use Rattle.stream.proofs.refill.Statement.{statement}
 use Rattle.stream.proofs.refill.Tie as tie
@@ -9,18 +8,14 @@ use Rattle.stream.proofs.refill.Tie as tie
 returns : tie.Need-returns
 returns c =
     λ up fits.
-    let moved = c .before .before .before .before .before .before .before .before .move-to-front .ensures up fits in
-    let size = moved .0 in
-    let kept = c .before .before .before .before .read-from .ensures .1 (omega (arith, size, fits, c .before .before .before .before .before .before .before .before .move-to-front .kept .0)) in
-    (refl, omega (arith, size), ap (λ n. take n (c .before .before .before .before .read-from .last .0)) (sym size) ∙ kept ∙ moved .1)
+    let filled = c .before .before .before .before .before .before .refill .ensures .1 up fits in
+    (refl, omega (arith, filled .0), filled .1)
 
 pub refill-spec : {M : Type 1} → statement M
 refill-spec =
     tie.close
     (tie.spec
     (λ c κs. search needs)
-    (λ c κs. search needs)
-    (λ c. search needs)
     (λ c. search needs)
     (λ c. search needs)
     returns)

@@ -3,7 +3,7 @@ use mathlib.Core.Path.{_≡_, sym, ap, _∙_}
 use mir.Syntax.{w32}
 use mir.Val.{toZ, ofZ}
 use borrow.Author.Needs.{needs}
-use Rattle.clauses.specs.Literals.{negative}
+use Rattle.variables.specs.Literals.{negative}
 use Rattle.values.proofs.Values.{byte-is}
 use Rattle.values.proofs.byte_for.Statement.{statement}
 use Rattle.values.proofs.byte_for.Tie as tie

@@ -3,7 +3,7 @@ use mathlib.Core.Path.{sym, ap, _∙_}
 use native.Mathlib.Omega.{arith}
 use lib.ListN.{length, length-map}
 use borrow.Author.Needs.{needs}
-use Rattle.counters.specs.Truths.{trueBytes}
+use Rattle.truths.specs.Truths.{trueBytes}
 use Rattle.weigh.specs.Marks.{inputTruth}
 use Rattle.weigh.proofs.Counters.{few-true}
 use Rattle.weigh.proofs.true_count.Statement.{statement}

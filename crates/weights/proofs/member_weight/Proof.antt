@@ -4,7 +4,7 @@ use mir.Syntax.{w32}
 use mir.Val.{toZ, ofZ}
 use borrow.Author.Needs.{needs}
 use Rattle.paper.specs.Clauses.{variable}
-use Rattle.clauses.specs.Literals.{negative}
+use Rattle.variables.specs.Literals.{negative}
 use Rattle.weights.proofs.Members.{negative-weight, other-weight}
 use Rattle.weights.proofs.member_weight.Statement.{statement}
 use Rattle.weights.proofs.member_weight.Tie as tie

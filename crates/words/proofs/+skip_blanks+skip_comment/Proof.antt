@@ -70,25 +70,30 @@ module _ (t : ℕ) where
   comment-found : blanks-lts.Need-returns (blanks-claims t) (blanks-given t) blanks.Post blanks-Inv blanks-μ
   comment-found c =
       let starts = sym (c .before .before .starts-line .ensures) ∙ c .before .if2 .taken in
-      cc (comment-starts _ _ (c .before .before .before .before .before .loop-test .taken) (c .before .before .before .if1 .taken) starts)
+      let passed = c .before .before .before .before .before .before .loop .inv .1 in
+      c .skip-comment .ensures
+      ∙ sym (passed ∙ comment-starts _ _ (c .before .before .before .before .before .loop-test .taken) (c .before .before .before .if1 .taken) starts)
 
   c-found : blanks-lts.Need-returns-2 (blanks-claims t) (blanks-given t) blanks.Post blanks-Inv blanks-μ
   c-found c =
       let in-line = sym (c .before .starts-line .ensures) ∙ c .if2 .left in
-      cc (c-in-line _ _ (c .before .before .before .before .loop-test .taken) (c .before .before .if1 .taken) in-line)
+      let passed = c .before .before .before .before .before .loop .inv .1 in
+      sym (passed ∙ c-in-line _ _ (c .before .before .before .before .loop-test .taken) (c .before .before .if1 .taken) in-line)
 
   word-found : blanks-lts.Need-returns-3 (blanks-claims t) (blanks-given t) blanks.Post blanks-Inv blanks-μ
   word-found c =
       let no-blank = sym (c .before .is-blank .ensures) ∙ not-true _ (c .if3 .taken) in
-      cc (word-starts _ _ (c .before .before .before .before .loop-test .taken) (c .before .before .if1 .left) no-blank)
+      let passed = c .before .before .before .before .before .loop .inv .1 in
+      sym (passed ∙ word-starts _ _ (c .before .before .before .before .loop-test .taken) (c .before .before .if1 .left) no-blank)
 
   blanks-again : blanks-lts.Need-loop-again (blanks-claims t) (blanks-given t) blanks.Post blanks-Inv blanks-μ
   blanks-again c =
       let blank = sym (c .before .is-blank .ensures) ∙ not-false _ (c .if3 .left) in
-      (omega arith, cc (blank-passed _ _ (c .before .before .before .before .loop-test .taken) (c .before .before .if1 .left) blank))
+      let passed = c .before .before .before .before .before .loop .inv .1 in
+      (omega arith, passed ∙ blank-passed _ _ (c .before .before .before .before .loop-test .taken) (c .before .before .if1 .left) blank)
 
   blanks-end : blanks-lts.Need-returns-4 (blanks-claims t) (blanks-given t) blanks.Post blanks-Inv blanks-μ
-  blanks-end c = cc (blanks-over _ _ (c .loop-test .left))
+  blanks-end c = sym (c .before .loop .inv .1 ∙ blanks-over _ _ (c .loop-test .left))
 
 -- ── Comments ──
 
@@ -100,13 +105,17 @@ comment-μ text at place₀ place = length text - place
 
 module _ (t : ℕ) where
   line-passed : comment-lts.Need-returns (comment-claims t) (comment-given t) comment.Post comment-Inv comment-μ
-  line-passed c = cc (comment-ends _ _ (c .before .before .before .loop-test .taken) (c .before .if1 .taken))
+  line-passed c =
+      let passed = c .before .before .before .before .loop .inv .1 in
+      c .skip-blanks .ensures ∙ sym (passed ∙ comment-ends _ _ (c .before .before .before .loop-test .taken) (c .before .if1 .taken))
 
   comment-again : comment-lts.Need-loop-again (comment-claims t) (comment-given t) comment.Post comment-Inv comment-μ
-  comment-again c = (omega arith, cc (comment-goes-on _ _ (c .before .before .loop-test .taken) (c .if1 .left)))
+  comment-again c =
+      let passed = c .before .before .before .loop .inv .1 in
+      (omega arith, passed ∙ comment-goes-on _ _ (c .before .before .loop-test .taken) (c .if1 .left))
 
   comment-end : comment-lts.Need-returns-2 (comment-claims t) (comment-given t) comment.Post comment-Inv comment-μ
-  comment-end c = cc (comment-over _ _ (c .loop-test .left))
+  comment-end c = sym (c .before .loop .inv .1 ∙ comment-over _ _ (c .loop-test .left))
 
 pub +skip-blanks+skip-comment-spec : {M : Type 1} → statement M
 +skip-blanks+skip-comment-spec =

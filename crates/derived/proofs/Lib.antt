@@ -1,0 +1,2 @@
+-- Laws that the proof of the step cites.
+pub mod Derives
