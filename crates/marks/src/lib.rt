@@ -4,7 +4,7 @@
 ghost use mathlib.Core.Path.{_≡_};
 ghost use mathlib.Core.List.{_++_};
 ghost use Prim.Native.Nat.{ℕ, _+_, _≤_, _<_};
-ghost use lib.ListN.{length, replicate};
+ghost use lib.ListN.{length, set, replicate};
 ghost use Rattle.paper.specs.declared.Width.{Width};
 ghost use Rattle.paper.specs.Session.{problemLiteral};
 ghost use Rattle.paper.specs.Derivation.{unassigned, assign as assignment};
@@ -13,7 +13,7 @@ ghost use Rattle.clauses.specs.Lowest.{lowest};
 ghost use Rattle.values.specs.Values.{literalIn, assignedIn};
 ghost use Rattle.marks.specs.Marks.{fresh, unmarked, Marked};
 
-// Assigns a literal and puts it on the trail, so that it is taken back with the others there.
+// Assigns a literal and puts it on the trail, so that it is taken back with the others there; a trail without the place is left alone.
 pub fn assign_next(
     low: &mut [u8],
     high: &mut [u8],
@@ -28,6 +28,7 @@ pub fn assign_next(
         → literalIn (now (low .entry) ++ now (high .entry)) literal ≡ unassigned
         → unmarked (now (low .exit) ++ now (high .exit)) (now (trail .exit)) (count + 1)
         ≡ unmarked (now (low .entry) ++ now (high .entry)) (now (trail .entry)) count) ⌝ }
+    ensures noted { λ _. ⌜ now (trail .exit) ≡ set (now (trail .entry)) count literal ⌝ }
 {
     values::assign(low, high, literal, truth);
     if trail.len() <= count {

@@ -45,7 +45,7 @@ loop-again c =
       set .kept .0 ∙ o .inv .2,
       set .kept .1 .0 ∙ o .inv .3,
       set .kept .1 .1 .0 ∙ o .inv .4,
-      set .ensures .1 less (ap (literalIn room) z ∙ unset) ∙ o .inv .5,
+      set .ensures .1 .0 less (ap (literalIn room) z ∙ unset) ∙ o .inv .5,
       ap (λ (w : List ℕ). assumedIn w rest) (set .ensures .0)
           ∙ ap (λ (k : ℤ). assumedIn (assignedIn room (assign k false)) rest) z
           ∙ sym (assumed-more room (a .clause .now) (o .j) unassigned unset (c .before .before .before .before .before .before .before .before .before .before .before .before .before .before .loop-test .taken))

@@ -136,7 +136,7 @@ loop-again c =
       set .kept .0 ∙ o .inv .1,
       set .kept .1 .0 ∙ o .inv .2,
       set .kept .1 .1 .0 ∙ o .inv .3,
-      rw next (set .ensures .1 less (ap (literalIn room) z ∙ unset)) ∙ o .inv .4,
+      rw next (set .ensures .1 .0 less (ap (literalIn room) z ∙ unset)) ∙ o .inv .4,
       λ s r H width tally named.
           let read = c .before .before .before .before .before .before .before .before .before .before .before .before .read-hint .ensures .1 s r H width tally (every-at _ 0 (a .hints .now) named (o .i) more) in
           let later = hinted s (drop (o .i + 1) (a .hints .now)) in
