@@ -3,14 +3,17 @@
 use mathlib.Core.Path.{_≡_}
 use mathlib.Core.Bool.{Bool, false}
 use mathlib.Core.List.{List, [], _∷_, _++_}
-use Prim.Native.Nat.{ℕ, _+_, _-_, min}
+use Prim.Native.Nat.{ℕ, _+_, _-_, _≤_, min}
 use lib.ListN.{length, drop}
 use Rattle.paper.specs.Clauses.{pick}
+use Rattle.paper.specs.declared.Tally.{Tally}
 use Rattle.paper.specs.Session.{Session, tallyOf}
 use Rattle.paper.specs.Runs.{Line}
 use Rattle.paper.specs.Records.{Record}
 use Rattle.paper.specs.Inputs.{recordsIn, bytesOf, recordLines, after, endLine, text}
-use Rattle.lines.specs.Lines.{Written}
+use Rattle.lines.specs.Lines.{lineRoom, Written}
+use Rattle.rooms.specs.Held.{Rooms}
+use Rattle.rooms.specs.Kept.{Kept}
 use Rattle.frames.specs.Frames.{stops}
 use Rattle.blocks.specs.declared.Progress.{Progress}
 
@@ -24,6 +27,19 @@ pub record Ran (s : Session) (place at filled : ℕ) (out : List ℕ) (rs : List
   pub stands : r .place ≡ place + length rs
   pub goes-on : r .stopped ≡ false
   pub lines : Written out filled (text (recordLines place s rs)) (r .written) out′
+
+-- Whatever session a caller keeps, the records lead on from it, and what is kept then is the session after them.
+abbrev pub CarriedOn : Tally → Rooms → List ℕ → ℕ → ℕ → ℕ → List ℕ → List Record → Progress → List ℕ → Rooms → List ℕ → Type 0
+CarriedOn t rooms values place at filled out rs r out′ rooms′ values′ =
+    (s : Session) → Kept t rooms values s → Ran s place at filled out rs r out′ × Kept (r .tally) rooms′ values′ (after s rs)
+
+-- Where one record of this size leads a run, and that the buffer is as long as it was.
+pub record Moved (p r : Progress) (n buffer buffer′ : ℕ) : Type 0 where
+  pub reads : r .consumed ≡ p .consumed + 4 + n
+  pub stands : r .place ≡ p .place + 1
+  pub short : r .written ≤ p .written + lineRoom
+  pub goes-on : r .stopped ≡ false
+  pub same : buffer′ ≡ buffer
 
 -- ── A block ──
 

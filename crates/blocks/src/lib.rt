@@ -2,14 +2,14 @@
 // other, and their lines stand in a lent buffer. A law of the paper says that a run may be cut so at any place.
 
 ghost use mathlib.Core.Path.{_≡_};
-ghost use mathlib.Core.List.{_++_};
+ghost use mathlib.Core.List.{[], _∷_, _++_};
 ghost use Prim.Native.Nat.{_+_, _*_, _^_, _<_, _≤_};
 ghost use lib.ListN.{length, drop};
 ghost use lib.Seq.{sets};
 ghost use Rattle.paper.specs.Session.{Session};
-ghost use Rattle.paper.specs.Inputs.{front, onFront, recordsIn, after, text};
+ghost use Rattle.paper.specs.Inputs.{front, onFront, recordIn, recordsIn, after, text};
 ghost use Rattle.rooms.specs.Kept.{Kept};
-ghost use Rattle.blocks.specs.Blocks.{Ran, mostRecords, takenFrom, linesIn, progressOf};
+ghost use Rattle.blocks.specs.Blocks.{Moved, CarriedOn, mostRecords, takenFrom, linesIn, progressOf};
 use paper::Front;
 use paper::Numbers;
 use paper::Tally;
@@ -38,8 +38,102 @@ fn whole_length(block: &[u8], at: usize) -> usize
     }
 }
 
-// Answers records as long as one stands whole at the place, but no more than `most`. Each call answers one and leaves the others to
-// the next.
+// Answers the record of this size that stands whole where the run has come to, and puts its line behind the others.
+fn answer_next(
+    progress: Progress,
+    rules: &mut [i32; 16384],
+    rule_ends: &mut [u32; 2048],
+    wishes: &mut [i32; 8192],
+    wish_ends: &mut [u32; 512],
+    wish_weights: &mut [u32; 512],
+    derived: &mut [i32; 16384],
+    derived_ends: &mut [u32; 4096],
+    inputs: &mut [i32; 8192],
+    counter_ends: &mut [u32; 128],
+    left: &mut [u32; 512],
+    outputs: &mut [u32; 8192],
+    low: &mut [u8; 4001],
+    high: &mut [u8; 65536],
+    block: &[u8],
+    size: usize,
+    out: &mut [u8],
+) -> Progress
+    requires { ⌜ front (drop (progress .consumed) (now block)) ≡ Front.Whole size ⌝ }
+    requires { ⌜ progress .place + 1 < 2 ^ 64 ⌝ }
+    requires { ⌜ progress .written + 65 ≤ length (now out) ⌝ }
+    ensures kept { λ _. ⌜ (now (low .exit) ≡ now (low .entry)) × (now (high .exit) ≡ now (high .entry)) ⌝ }
+    ensures moved { λ r. ⌜ Moved progress r size (length (now (out .entry))) (length (now (out .exit))) ⌝ }
+    ensures ran { λ r. ⌜ CarriedOn (progress .tally)
+        (record {
+          rules = now (rules .entry);
+          ruleEnds = now («rule_ends» .entry);
+          wishes = now (wishes .entry);
+          wishEnds = now («wish_ends» .entry);
+          wishWeights = now («wish_weights» .entry);
+          derived = now (derived .entry);
+          derivedEnds = now («derived_ends» .entry);
+          inputs = now (inputs .entry);
+          counterEnds = now («counter_ends» .entry);
+          left = now (left .entry);
+          outputs = now (outputs .entry);
+        })
+        (now (low .entry) ++ now (high .entry))
+        (progress .place) (progress .consumed) (progress .written) (now (out .entry))
+        (recordIn size (drop (progress .consumed) (now (block .entry))) ∷ []) r (now (out .exit))
+        (record {
+          rules = now (rules .exit);
+          ruleEnds = now («rule_ends» .exit);
+          wishes = now (wishes .exit);
+          wishEnds = now («wish_ends» .exit);
+          wishWeights = now («wish_weights» .exit);
+          derived = now (derived .exit);
+          derivedEnds = now («derived_ends» .exit);
+          inputs = now (inputs .exit);
+          counterEnds = now («counter_ends» .exit);
+          left = now (left .exit);
+          outputs = now (outputs .exit);
+        })
+        (now (low .exit) ++ now (high .exit)) ⌝ }
+{
+    let at = progress.consumed;
+    let kind = frames::kind_at(block, at);
+    let done = records::answer_record(
+        progress.tally,
+        rules,
+        rule_ends,
+        wishes,
+        wish_ends,
+        wish_weights,
+        derived,
+        derived_ends,
+        inputs,
+        counter_ends,
+        left,
+        outputs,
+        low,
+        high,
+        kind,
+        frames::payload_at(block, at, size),
+    );
+    let answer = done.answer;
+    let written = lines::put_line(
+        out,
+        progress.written,
+        progress.place,
+        kind,
+        lines::numbers_of(answer),
+    );
+    let tally = done.tally;
+    Progress {
+        tally: tally,
+        consumed: at + 4 + size,
+        place: progress.place + 1,
+        written: written,
+        stopped: false,
+    }
+}
+
+// Answers records as long as one stands whole, but no more than `most`.
 fn run_records(
     tally: Tally,
     rules: &mut [i32; 16384],
@@ -56,18 +150,15 @@ fn run_records(
     low: &mut [u8; 4001],
     high: &mut [u8; 65536],
     block: &[u8],
-    at: usize,
     most: u64,
     place: u64,
     out: &mut [u8],
-    filled: usize,
 ) -> Progress
     requires { ⌜ place + most < 2 ^ 64 ⌝ }
-    requires { ⌜ filled + 65 * most ≤ length (now out) ⌝ }
+    requires { ⌜ 65 * most ≤ length (now out) ⌝ }
     ensures kept { λ _. ⌜ (now (low .exit) ≡ now (low .entry)) × (now (high .exit) ≡ now (high .entry)) ⌝ }
-    ensures short { λ r. ⌜ (r .written ≤ filled + 65 * most) × (r .place ≤ place + most) ⌝ }
-    ensures ran { λ r. ⌜ ((s : Session)
-        → Kept tally
+    ensures short { λ r. ⌜ r .written ≤ 65 * most ⌝ }
+    ensures ran { λ r. ⌜ CarriedOn tally
         (record {
           rules = now (rules .entry);
           ruleEnds = now («rule_ends» .entry);
@@ -81,9 +172,8 @@ fn run_records(
           left = now (left .entry);
           outputs = now (outputs .entry);
         })
-        (now (low .entry) ++ now (high .entry)) s
-        → Ran s place at filled (now (out .entry)) (recordsIn most (drop at (now (block .entry)))) r (now (out .exit))
-        × Kept (r .tally)
+        (now (low .entry) ++ now (high .entry))
+        place 0 0 (now (out .entry)) (recordsIn most (now (block .entry))) r (now (out .exit))
         (record {
           rules = now (rules .exit);
           ruleEnds = now («rule_ends» .exit);
@@ -97,68 +187,43 @@ fn run_records(
           left = now (left .exit);
           outputs = now (outputs .exit);
         })
-        (now (low .exit) ++ now (high .exit)) (after s (recordsIn most (drop at (now (block .entry)))))) ⌝ }
+        (now (low .exit) ++ now (high .exit)) ⌝ }
 {
-    let so_far = Progress {
+    let mut progress = Progress {
         tally: tally,
-        consumed: at,
+        consumed: 0,
         place: place,
-        written: filled,
+        written: 0,
         stopped: false,
     };
-    if most == 0 {
-        return so_far;
+    let mut more = most;
+    while 0 < more {
+        let size = whole_length(block, progress.consumed);
+        if size == 0 {
+            return progress;
+        }
+        progress = answer_next(
+            progress,
+            rules,
+            rule_ends,
+            wishes,
+            wish_ends,
+            wish_weights,
+            derived,
+            derived_ends,
+            inputs,
+            counter_ends,
+            left,
+            outputs,
+            low,
+            high,
+            block,
+            size,
+            out,
+        );
+        more -= 1;
     }
-    let length = whole_length(block, at);
-    if length == 0 {
-        return so_far;
-    }
-    let next = at + 4 + length;
-    let fewer = most - 1;
-    let later = place + 1;
-    let kind = frames::kind_at(block, at);
-    let done = records::answer_record(
-        tally,
-        rules,
-        rule_ends,
-        wishes,
-        wish_ends,
-        wish_weights,
-        derived,
-        derived_ends,
-        inputs,
-        counter_ends,
-        left,
-        outputs,
-        low,
-        high,
-        kind,
-        frames::payload_at(block, at, length),
-    );
-    let answer = done.answer;
-    let end = lines::put_line(out, filled, place, kind, lines::numbers_of(answer));
-    run_records(
-        done.tally,
-        rules,
-        rule_ends,
-        wishes,
-        wish_ends,
-        wish_weights,
-        derived,
-        derived_ends,
-        inputs,
-        counter_ends,
-        left,
-        outputs,
-        low,
-        high,
-        block,
-        next,
-        fewer,
-        later,
-        out,
-        end,
-    )
+    progress
 }
 
 // The place of the last record, and of an end behind it, has to be a number of 64 bits.
@@ -245,11 +310,9 @@ pub fn run_block(
         low,
         high,
         block,
-        0,
         most_records(place),
         place,
         out,
-        0,
     );
     if !frames::stops(block, done.consumed, last) {
         return done;
