@@ -8,6 +8,9 @@ use lib.Seq.{take-suc, take-suc-set, drop-set-lt, getD-drop, drop-drop}
 use borrow.Author.Tests.{le-leb}
 use Rattle.buffers.specs.Parts.{partOf}
 
+pub part-is : (bytes : List ℕ) (start end : ℕ) → start ≤ end → end ≤ length bytes → partOf bytes start end ≡ take (end - start) (drop start bytes)
+part-is bytes start end up fits = rw (le-leb start end up, le-leb end (length bytes) fits)
+
 pub record Moved (bytes₀ : List ℕ) (start : ℕ) (bytes : List ℕ) (from to : ℕ) : Type 0 where
   pub ahead : from ≡ start + to
   pub long : length bytes ≡ length bytes₀
@@ -56,5 +59,7 @@ module _ (bytes₀ : List ℕ) (start : ℕ) (bytes : List ℕ) (from to : ℕ) 
 pub all-moved : (bytes₀ : List ℕ) (start : ℕ) (bytes : List ℕ) (from to end : ℕ) → Moved bytes₀ start bytes from to → end ≤ from
     → from ≤ end → end ≤ length bytes₀ → (to ≡ end - start) × (take to bytes ≡ partOf bytes₀ start end)
 all-moved bytes₀ start bytes from to end k past up fits =
-    let size : to ≡ end - start = omega (arith, k .ahead, past, up) in
-    (size, k .front ∙ rw (le-leb start end (omega (arith, k .ahead, up)), le-leb end (length bytes₀) fits) (ap (λ n. take n (drop start bytes₀)) size))
+    let size : to ≡ end - start = omega (arith, k .ahead, past, up) in (
+      size,
+      k .front ∙ ap (λ n. take n (drop start bytes₀)) size ∙ sym (part-is bytes₀ start end (omega (arith, k .ahead, up)) fits),
+    )

@@ -58,7 +58,8 @@ fn read_some(bytes: &mut [u8]) -> usize
 // fails, and where none may come.
 fn read_from(buffer: &mut [u8], from: usize, most: u64) -> usize
     ensures within { λ r. ⌜ (r ≤ most) × (from + r < 2 ^ 64) ⌝ }
-    ensures kept { λ _. ⌜ (from ≤ length (now (buffer .entry)) → take from (now (buffer .exit)) ≡ take from (now (buffer .entry))) ⌝ }
+    ensures kept { λ r. ⌜ (from ≤ length (now (buffer .entry))
+        → (take from (now (buffer .exit)) ≡ take from (now (buffer .entry))) × (from + r ≤ length (now (buffer .entry)))) ⌝ }
 {
     if buffer.len() < from {
         return 0;
@@ -80,7 +81,8 @@ pub struct Filled {
 pub fn refill(bytes: &mut [u8], start: usize, end: usize, most: u64) -> Filled
     ensures within { λ r. ⌜ r .got ≤ most ⌝ }
     ensures kept { λ r. ⌜ (start ≤ end → end ≤ length (now (bytes .entry))
-        → (r .end ≡ (end - start) + r .got) × (take (end - start) (now (bytes .exit)) ≡ partOf (now (bytes .entry)) start end)) ⌝ }
+        → (r .end ≡ (end - start) + r .got) × (r .end ≤ length (now (bytes .entry)))
+        × (take (end - start) (now (bytes .exit)) ≡ partOf (now (bytes .entry)) start end)) ⌝ }
 {
     let rest = move_to_front(bytes, start, end);
     let got = read_from(bytes, rest, most);
@@ -90,15 +92,18 @@ pub fn refill(bytes: &mut [u8], start: usize, end: usize, most: u64) -> Filled
     }
 }
 
-// Reads so many bytes of standard input, or what there is of them, and drops them.
-pub fn skip(count: u64) {
+// Reads so many bytes of standard input and drops them; the answer is how many of them did not come.
+pub fn skip(count: u64) -> u64
+    ensures { λ r. ⌜ r ≤ count ⌝ }
+{
     let mut space = [0u8; 65536];
     let mut left = count;
     while 0 < left {
         let got = read_from(&mut space, 0, left) as u64;
         if got == 0 {
-            return;
+            return left;
         }
         left -= got;
     }
+    left
 }

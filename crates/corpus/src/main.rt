@@ -14,7 +14,7 @@ fn write_heading(number: u64) -> bool {
     io::write_all(STDOUT_FILENO, b"\n")
 }
 
-// Answers whether there was a run, and its lines were written. A run that stops early leaves bytes behind, which are not the
+// Answers whether there was a whole run, and its lines were written. A run that stops early leaves bytes behind, which are not the
 // next one's length.
 fn run_next(number: u64) -> bool {
     let mut bytes = [0u8; 4];
@@ -25,8 +25,8 @@ fn run_next(number: u64) -> bool {
         return false;
     }
     let finish = stream::run(payload::number_of_four(&bytes, 0) as u64);
-    buffers::skip(finish.unread);
-    finish.written
+    let missing = buffers::skip(finish.unread);
+    finish.written && missing == 0
 }
 
 // A proved loop has to end, and nothing says that a container does: the numbers do.

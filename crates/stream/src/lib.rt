@@ -1,15 +1,19 @@
 // A run of the tally over standard input, with its answer lines on standard output. Input comes in blocks of 64 KiB and lines go
 // out together, some 250 at a time: a system call a record would cost more than the record. No contract can say what is read or
-// written, so what is proved here is that every function is safe and ends, and that what is left of a block goes before what is read
-// next; what the records of a block do is said, and proved, by the contract of `blocks::run_block`.
+// written. What is said of a turn is that it leads from the session before it to the session after the records that its block has
+// whole, and that what these leave of the block is where the next turn begins: no byte is taken twice, and none is lost.
 
 ghost use mathlib.Core.Path.{_≡_};
-ghost use Prim.Native.Nat.{_-_, _≤_};
-ghost use lib.ListN.{length, take};
-ghost use Rattle.buffers.specs.Parts.{partOf};
-use blocks::Progress;
+ghost use mathlib.Core.List.{_++_};
+ghost use Prim.Native.Nat.{_+_, _≤_};
+ghost use lib.ListN.{length};
+ghost use Rattle.paper.specs.Session.{Session};
+ghost use Rattle.paper.specs.Inputs.{after as afterRecords};
+ghost use Rattle.rooms.specs.Kept.{Kept};
+ghost use Rattle.turns.specs.Turns.{waiting, Within, Begins};
+ghost use Rattle.stream.specs.Taken.{taken, unanswered, Standing};
 use libc::STDOUT_FILENO;
-use paper::Tally;
+use turns::State;
 
 // How a run went.
 pub struct Finish {
@@ -19,94 +23,8 @@ pub struct Finish {
     pub written: bool,
 }
 
-// Where a run stands between two turns.
-struct State {
-    tally: Tally,
-    // the place of the next record
-    place: u64,
-    // the bytes of the buffer that no record has taken yet: from here
-    start: usize,
-    // to here
-    end: usize,
-    // how many bytes the run may still read
-    unread: u64,
-    // nothing follows what the buffer has
-    last: bool,
-    // every line was written
-    written: bool,
-    // no turn is to follow
-    over: bool,
-}
-
-fn fresh(limit: u64) -> State {
-    let tally = Tally {
-        variables: 0,
-        rules: 0,
-        wishes: 0,
-        derived: 0,
-        counters: 0,
-        bound: 0,
-    };
-    State {
-        tally: tally,
-        place: 1,
-        start: 0,
-        end: 0,
-        unread: limit,
-        last: false,
-        written: true,
-        over: false,
-    }
-}
-
-// What is left of a block goes before what is read next, so that the record that it begins stands whole.
-fn refill(state: State, input: &mut [u8]) -> State
-    ensures { λ r. ⌜ (state .start ≤ state .end → state .end ≤ length (now (input .entry))
-        → (r .start ≡ 0) × (state .end - state .start ≤ r .end)
-        × (take (state .end - state .start) (now (input .exit)) ≡ partOf (now (input .entry)) (state .start) (state .end))) ⌝ }
-{
-    let filled = buffers::refill(input, state.start, state.end, state.unread);
-    let tally = state.tally;
-    State {
-        tally: tally,
-        place: state.place,
-        start: 0,
-        end: filled.end,
-        unread: state.unread - filled.got,
-        last: filled.got == 0,
-        written: state.written,
-        over: state.over,
-    }
-}
-
-// A block gives no more bytes than it has, and then neither test is met: they make the sum safe without a word on the block.
-fn ahead(start: usize, consumed: usize, end: usize) -> usize {
-    if end < start {
-        return end;
-    }
-    if end - start < consumed {
-        return end;
-    }
-    start + consumed
-}
-
-// The last block has no record whole and ends a run, with 10 or without.
-fn after(state: State, done: Progress, written: bool) -> State {
-    let tally = done.tally;
-    State {
-        tally: tally,
-        place: done.place,
-        start: ahead(state.start, done.consumed, state.end),
-        end: state.end,
-        unread: state.unread,
-        last: state.last,
-        written: written,
-        over: done.stopped || !written || (state.last && done.consumed == 0),
-    }
-}
-
 // Answers the records that stand whole in the buffer, as many as one call takes. Only where there is none is anything moved or
-// read.
+// read. A turn is asked for only where a session is kept, so that what is said of a turn holds of every one of a run.
 fn turn(
     state: State,
     rules: &mut [i32; 16384],
@@ -124,7 +42,60 @@ fn turn(
     high: &mut [u8; 65536],
     input: &mut [u8; 65536],
     out: &mut [u8; 16384],
-) -> State {
+) -> State
+    requires { ⌜ Standing (state .tally)
+        (record {
+          rules = now rules;
+          ruleEnds = now «rule_ends»;
+          wishes = now wishes;
+          wishEnds = now «wish_ends»;
+          wishWeights = now «wish_weights»;
+          derived = now derived;
+          derivedEnds = now «derived_ends»;
+          inputs = now inputs;
+          counterEnds = now «counter_ends»;
+          left = now left;
+          outputs = now outputs;
+        })
+        (now low ++ now high) ⌝ }
+    requires { ⌜ Within state (length (now input)) ⌝ }
+    ensures kept { λ _. ⌜ (now (low .exit) ≡ now (low .entry)) × (now (high .exit) ≡ now (high .entry)) ⌝ }
+    ensures less { λ r. ⌜ r .unread ≤ state .unread ⌝ }
+    ensures waits { λ r. ⌜ Within r (length (now (input .exit)))
+        × Begins (waiting r (now (input .exit))) (unanswered state (now (input .entry))) ⌝ }
+    ensures turned { λ r. ⌜ ((s : Session)
+        → Kept (state .tally)
+        (record {
+          rules = now (rules .entry);
+          ruleEnds = now («rule_ends» .entry);
+          wishes = now (wishes .entry);
+          wishEnds = now («wish_ends» .entry);
+          wishWeights = now («wish_weights» .entry);
+          derived = now (derived .entry);
+          derivedEnds = now («derived_ends» .entry);
+          inputs = now (inputs .entry);
+          counterEnds = now («counter_ends» .entry);
+          left = now (left .entry);
+          outputs = now (outputs .entry);
+        })
+        (now (low .entry) ++ now (high .entry)) s
+        → (r .place ≡ state .place + length (taken state (now (input .entry))))
+        × Kept (r .tally)
+        (record {
+          rules = now (rules .exit);
+          ruleEnds = now («rule_ends» .exit);
+          wishes = now (wishes .exit);
+          wishEnds = now («wish_ends» .exit);
+          wishWeights = now («wish_weights» .exit);
+          derived = now (derived .exit);
+          derivedEnds = now («derived_ends» .exit);
+          inputs = now (inputs .exit);
+          counterEnds = now («counter_ends» .exit);
+          left = now (left .exit);
+          outputs = now (outputs .exit);
+        })
+        (now (low .exit) ++ now (high .exit)) (afterRecords s (taken state (now (input .entry))))) ⌝ }
+{
     let done = blocks::run_block(
         state.tally,
         rules,
@@ -146,19 +117,21 @@ fn turn(
         out,
     );
     let written = io::write_all(STDOUT_FILENO, buffers::part(out, 0, done.written));
-    let next = after(state, done, written);
+    let next = turns::after(state, done, written);
     if next.over {
         return next;
     }
     if 0 < done.consumed {
         return next;
     }
-    refill(next, input)
+    turns::refill(next, input)
 }
 
 // One run from a fresh session, over at most so many bytes of standard input. A proved loop has to end, and nothing says that an
 // input does: so the turns are counted down, from a number that no run uses up.
-pub fn run(limit: u64) -> Finish {
+pub fn run(limit: u64) -> Finish
+    ensures { λ r. ⌜ r .unread ≤ limit ⌝ }
+{
     let mut rules = [0i32; 16384];
     let mut rule_ends = [0u32; 2048];
     let mut wishes = [0i32; 8192];
@@ -174,7 +147,7 @@ pub fn run(limit: u64) -> Finish {
     let mut high = [0u8; 65536];
     let mut input = [0u8; 65536];
     let mut out = [0u8; 16384];
-    let mut state = fresh(limit);
+    let mut state = turns::fresh(limit);
     let mut turns = u64::MAX;
     while 0 < turns && !state.over {
         turns -= 1;

@@ -12,8 +12,9 @@ returns c = (
   λ up fits.
       let moved = c .before .before .before .before .before .before .move-to-front .ensures up fits in
       let size = moved .0 in
-      let kept = c .before .before .read-from .ensures .1 (omega (arith, size, fits, c .before .before .before .before .before .before .move-to-front .kept .0)) in
-      (omega (arith, size), ap (λ n. take n (c .before .before .read-from .last .0)) (sym size) ∙ kept ∙ moved .1),
+      let moved-same = c .before .before .before .before .before .before .move-to-front .kept .0 in
+      let kept = c .before .before .read-from .ensures .1 (omega (arith, size, fits, moved-same)) in
+      (omega (arith, size), omega (arith, kept .1, moved-same), ap (λ n. take n (c .before .before .read-from .last .0)) (sym size) ∙ kept .0 ∙ moved .1),
 )
 
 pub refill-spec : {M : Type 1} → statement M

@@ -1,5 +1,6 @@
--- `skip` is safe and ends: each turn leaves fewer bytes to skip.
+-- `skip` meets its contract, and ends: each turn leaves fewer bytes to skip.
 use mathlib.Core.Path.{_≡_}
+use Prim.Native.Nat.{_≤_}
 use native.Mathlib.Omega.{arith}
 use lib.ListN.{length}
 use borrow.Author.Needs.{needs}
@@ -7,7 +8,7 @@ use Rattle.buffers.proofs.skip.Statement.{statement}
 use Rattle.buffers.proofs.skip.Tie as tie
 
 abbrev Inv-loop : tie.InvT-loop
-Inv-loop count space₀ left₀ space left = length space ≡ 65536
+Inv-loop count space₀ left₀ space left = (length space ≡ 65536) × (left ≤ count)
 
 abbrev μ-loop : tie.MeasureT-loop
 μ-loop count space₀ left₀ space left = left

@@ -1,0 +1,2 @@
+-- What a turn leads to.
+mod Turned
