@@ -1,5 +1,6 @@
 // A run over a block of an input, which may be any part of it: the records that the block has whole are answered one after the
 // other, and their lines stand in a lent buffer. A law of the paper says that a run may be cut so at any place.
+#![tactic(auto)]
 
 ghost use Rattle.std.specs.Prelude.{◌≡◌, [], ◌∷◌, ◌++◌, ◌+◌, ◌*◌, ◌^◌, ◌<◌, ◌≤◌, length, drop};
 ghost use Rattle.std.proofs.lemmas.List.Edits.{sets};
@@ -11,7 +12,7 @@ ghost use Rattle.blocks.specs.Blocks.{Moved, CarriedOn, most_records, taken_from
 use paper::{Front, Numbers, Tally};
 
 // How far a run has come.
-#[derive(Drop)]
+#[derive(Clone, Copy)]
 pub struct Progress {
     pub tally: Tally,
     // how many bytes of the block the records took

@@ -1,5 +1,6 @@
 // A lent buffer that standard input comes in: a part of its bytes, and its filling again, where what is left of it goes before what is
 // read next. No contract can say what is read; what is said is where it goes, and that what was left is kept.
+#![tactic(auto)]
 
 ghost use Rattle.std.specs.Prelude.{◌≡◌, ◌+◌, ◌-◌, ◌^◌, ◌≤◌, ◌<◌, length, take};
 ghost use Rattle.buffers.specs.Parts.{part_of};
@@ -69,7 +70,7 @@ fn read_from(buffer: &mut [u8], from: usize, most: u64) -> usize
 }
 
 // What a buffer has after it was filled again.
-#[derive(Drop)]
+#[derive(Clone, Copy)]
 pub struct Filled {
     // where its bytes end; they start at its front
     pub end: usize,

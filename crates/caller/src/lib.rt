@@ -1,5 +1,6 @@
 // A caller that starts from zeroed arrays, runs the whole worked run from its bytes and weighs its last arrangement. What its lines
 // are, byte for byte, and what the weighing answers is proved from the contracts alone: so they can be met together.
+#![tactic(auto)]
 
 ghost use Rattle.std.specs.Prelude.{◌≡◌, true, length};
 ghost use Rattle.std.proofs.lemmas.List.Edits.{sets};
@@ -48,7 +49,7 @@ fn weighed(
 }
 
 // What the worked run left.
-#[derive(Drop)]
+#[derive(Clone, Copy)]
 pub struct Worked {
     // how many bytes its lines took
     pub written: usize,

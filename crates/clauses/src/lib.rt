@@ -1,6 +1,7 @@
 // Families of clauses in lent rooms: a clause by its number, one more clause, and the look-up of a rule or of a derived clause as the
 // very stretch of its room. Every function is safe on rooms of any content; what it says, it says of each
 // family that the rooms hold.
+#![tactic(auto)]
 
 ghost use Rattle.std.specs.Prelude.{◌≡◌, List, [], ℕ, ◌+◌, ◌^◌, ◌≤◌, ◌<◌, ℤ, length, get_or};
 ghost use Rattle.std.proofs.Math.Seq.{paste};

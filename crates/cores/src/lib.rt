@@ -2,6 +2,7 @@
 // or more gives it to its root outputs from 2 on. The function is safe on rooms and tallies of any content. What it says, it says of
 // each reached session that the rooms hold: the outcome is the paper's, and the rooms then hold the paper's next session. A refusal so
 // leaves everything as it was.
+#![tactic(auto)]
 
 ghost use Rattle.std.specs.Prelude.{◌≡◌, ◌+◌, ◌^◌, ◌<◌};
 ghost use Rattle.paper.specs.Session.{Session, tally_of};

@@ -1,5 +1,6 @@
 // Many runs in one. Standard input is a container: a sequence of runs, each a 4-byte little-endian length and then so many bytes,
 // which are the run's input. Each run starts from a fresh session, and a heading with its number stands before its answer lines.
+#![tactic(auto)]
 
 use libc::{STDIN_FILENO, STDOUT_FILENO};
 

@@ -1,5 +1,6 @@
 // The clauses of a counter by number, found by going down the halves: no clause is listed and none is stored. A counter
 // starts at 1,000,000 at most and has at most 384 variables, so that each of its variables is below 1,000,384.
+#![tactic(auto)]
 ghost use Rattle.std.specs.Prelude.{◌≡◌, [], ◌+◌, ◌-◌, ◌/◌, ◌<◌, ◌≤◌, pos, negsuc, length};
 ghost use Rattle.paper.specs.Clauses.{Clause};
 ghost use Rattle.paper.specs.Counters.{output, previous, unless, sum_clause, own_clauses, clause_at, variables_of, clauses_of};
@@ -7,7 +8,7 @@ ghost use Rattle.tables.specs.Tables.{table_of};
 ghost use Rattle.counters.specs.Numbered.{counter_of, numbered, Holds, Found};
 
 // A clause of up to three literals. The entries past its length are 0.
-#[derive(Drop)]
+#[derive(Clone, Copy)]
 pub struct Three {
     pub literals: [i32; 3],
     pub length: usize,

@@ -1,6 +1,7 @@
 // The check of a derivation. The clause's literals are taken as false and the hints are read in their order; each that forces a
 // literal assigns it. What was assigned stands on a trail and is taken back from its end, so the value rooms are left as they were,
 // whatever they held.
+#![tactic(auto)]
 
 ghost use Rattle.std.specs.Prelude.{◌≡◌, true, ◌++◌, ◌+◌, ◌≤◌, ◌<◌, length};
 ghost use Rattle.paper.specs.Sizes.{most_hints};
@@ -21,7 +22,7 @@ const MOST_HINTS: usize = 256;
 const MOST_LITERALS: usize = 256;
 
 // Where the hints lead to, and how many literals the trail has then.
-#[derive(Drop)]
+#[derive(Clone, Copy)]
 struct Followed {
     place: usize,
     count: usize,

@@ -1,6 +1,7 @@
 // The step that stores a derived clause, over lent rooms. The function is safe on rooms and tallies of any content. What it says, it
 // says of each reached session that the rooms hold: the outcome is the paper's, and the rooms then hold the paper's next session. A
 // refusal so leaves everything as it was.
+#![tactic(auto)]
 
 ghost use Rattle.std.specs.Prelude.{◌≡◌, ◌++◌, map};
 ghost use Rattle.paper.specs.Sizes.{narrow};

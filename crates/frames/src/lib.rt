@@ -1,5 +1,6 @@
 // What stands in the bytes of a block from a place on: a whole record or none, and the parts of a record. Every function is safe
 // at any place; past the block's end there are no bytes.
+#![tactic(auto)]
 
 ghost use Rattle.std.specs.Prelude.{◌≡◌, ◌-◌, take, drop};
 ghost use Rattle.paper.specs.Records.{number};

@@ -1,5 +1,6 @@
 // The header of an older text: where it stands, its three numbers, and where the clauses begin behind its line. The work is in
 // proportion to the bytes up to there.
+#![tactic(auto)]
 
 ghost use Rattle.std.specs.Prelude.{◌≡◌};
 ghost use Rattle.words.specs.Words.{words_at};
@@ -7,7 +8,7 @@ ghost use Rattle.headers.specs.Headings.{NumberAt, three_of, no_three, no_headin
 
 use paper::Header;
 
-#[derive(Drop)]
+#[derive(Clone, Copy)]
 pub struct Heading {
     // there is a header, and it has its form
     pub fits: bool,
@@ -20,7 +21,7 @@ pub struct Heading {
 }
 
 // What stands next on a line where a number belongs.
-#[derive(Drop)]
+#[derive(Clone, Copy)]
 pub struct Number {
     // there is a word, and it is a decimal number, and not too large
     pub fits: bool,
@@ -32,7 +33,7 @@ pub struct Number {
 }
 
 // What the words of a line read as where three numbers belong.
-#[derive(Drop)]
+#[derive(Clone, Copy)]
 pub struct Three {
     // they are three numbers, and no word more
     pub fits: bool,

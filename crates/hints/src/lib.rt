@@ -1,5 +1,6 @@
 // A hint's clause read where it stands, under the values in the rooms: a rule or a derived clause in its family's room, a wish clause
 // with its variable behind its literals, and a counter's clause, which is made for the reading.
+#![tactic(auto)]
 
 ghost use Rattle.std.specs.Prelude.{◌≡◌, true, List, [], ◌++◌, ℕ, get_or};
 ghost use Rattle.paper.specs.Sizes.{wish_room, counter_start};

@@ -1,6 +1,7 @@
 // The judging of an arrangement over lent rooms: the lowest rule that it breaks, or else what it costs against the bound. Every
 // function is safe on rooms, tallies and arrangements of any content; what it says, it says of each reached session that the
 // rooms hold. The work is in proportion to the literals of the clauses counted, and of each only up to its first true one.
+#![tactic(auto)]
 
 ghost use Rattle.std.specs.Prelude.{◌≡◌, List, ℕ, ◌-◌, ◌^◌, ◌<◌, length};
 ghost use Rattle.paper.specs.Clauses.{Clause, literal_true, clause_true};

@@ -1,5 +1,6 @@
 // The answer line of a record, as text in a lent buffer: place, kind, number and two values in decimal, with single spaces and a
 // line end. The work is in proportion to the bytes written, each of which is stored once.
+#![tactic(auto)]
 
 ghost use Rattle.std.specs.Prelude.{◌≡◌, ◌+◌, ◌≤◌, length};
 ghost use Rattle.paper.specs.Answers.{give, numbers};

@@ -1,10 +1,11 @@
 // The literals of a clause in a text, from behind its weight to the 0 that ends it. The work is in proportion to the bytes passed.
+#![tactic(auto)]
 
 ghost use Rattle.std.specs.Prelude.{◌≡◌, set};
 ghost use Rattle.literals.specs.Reading.{Reads};
 
 // Where the reading of a clause's literals stops.
-#[derive(Drop)]
+#[derive(Clone, Copy)]
 pub struct Literals {
     // 0 at the clause's 0, 31 at a word that is no literal, 32 at the text's end
     pub number: u32,

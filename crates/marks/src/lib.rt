@@ -1,5 +1,6 @@
 // The variables of a clause marked in the two value rooms, to tell them apart, and the trail of what a derivation assigns. Whatever
 // is marked or assigned is taken back from its end, so that the rooms are left as they were.
+#![tactic(auto)]
 
 ghost use Rattle.std.specs.Prelude.{◌≡◌, ◌++◌, ℕ, ◌+◌, ◌≤◌, ◌<◌, length, set, replicate};
 ghost use Rattle.paper.specs.declared.Width.{Width};

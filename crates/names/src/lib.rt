@@ -1,5 +1,6 @@
 // What a derived clause and its hints may name. A variable is looked up by dividing: the counter that it stands in is a quotient
 // by the stride, and its place there the remainder.
+#![tactic(auto)]
 
 ghost use Rattle.std.specs.Prelude.{◌≡◌, List, ◌++◌, ◌/◌, ◌%◌, ℤ};
 ghost use Rattle.paper.specs.Clauses.{every};
@@ -92,7 +93,7 @@ pub fn named_refusal(
 }
 
 // The parts of a hint.
-#[derive(Drop)]
+#[derive(Clone, Copy)]
 pub struct Parts {
     pub family: u32,
     pub first: u32,

@@ -1,11 +1,12 @@
 // A word of a text taken for a decimal number or for a literal. Numbers go by value, with any many zeros before them.
+#![tactic(auto)]
 
 ghost use Rattle.std.specs.Prelude.{◌≡◌, false, ◌+◌, ◌*◌, ◌-◌, ◌^◌, ◌<◌, pos};
 ghost use Rattle.paper.specs.Texts.{digit};
 ghost use Rattle.numerals.specs.Numerals.{numeral_of, literal_in};
 
 // What a word reads as where a number belongs.
-#[derive(Drop)]
+#[derive(Clone, Copy)]
 pub struct Numeral {
     // it is a decimal number, and not too large
     pub fits: bool,
@@ -14,7 +15,7 @@ pub struct Numeral {
 }
 
 // What a word reads as where a literal belongs.
-#[derive(Drop)]
+#[derive(Clone, Copy)]
 pub struct Literal {
     // it is a literal, or the 0 that ends a clause
     pub fits: bool,

@@ -1,5 +1,6 @@
 // The opening of a session, and what every later step takes from here: the width that a tally was opened with, and a refusal by its
 // number. Every function is safe on a tally of any content.
+#![tactic(auto)]
 
 ghost use Rattle.std.specs.Prelude.{◌≡◌};
 ghost use Rattle.paper.specs.Sizes.{narrow};

@@ -1,6 +1,7 @@
 // Records as bytes in a lent room. A record is written where it fits as a whole. Else nothing is written, and the end that is
 // answered is one past the room: nothing fits from there on, so a caller that goes on from end to end needs no other sign. The
 // work is in proportion to the bytes written, each of which is stored once.
+#![tactic(auto)]
 
 ghost use Rattle.std.specs.Prelude.{◌≡◌, ◌++◌, ◌+◌, ◌*◌, ◌-◌, ◌≤◌, leb, length, take, replicate};
 ghost use Rattle.paper.specs.Texts.{bytes_for, bits_of, literal_bytes, record_bytes, open_record, clause_record};

@@ -1,7 +1,8 @@
 // The types that the definitions, the code over them and its readers share. Those that cross to C have its layout.
+#![tactic(auto)]
 
 // The sizes that go with the kind of the opening record. They are one value, so that laws and code are stated over them.
-#[derive(Drop)]
+#[derive(Clone, Copy)]
 pub struct Width {
     // at most so many in a clause, and inputs at most in a counter
     pub literals: u32,
@@ -13,7 +14,7 @@ pub struct Width {
 
 // The counts of the four families and the bound, with n, which is 0 before the opening.
 #[repr(C)]
-#[derive(Drop)]
+#[derive(Clone, Copy)]
 pub struct Tally {
     pub variables: u32,
     pub rules: u32,
@@ -24,7 +25,7 @@ pub struct Tally {
 }
 
 // What a step answers; `specs/Answers.antt` gives the number and the two values for each case.
-#[derive(Drop)]
+#[derive(Clone, Copy)]
 pub enum Answer {
     // n
     Opened(u32),
@@ -48,7 +49,7 @@ pub enum Answer {
 
 // What an answer gives back: its number, and two values.
 #[repr(C)]
-#[derive(Drop)]
+#[derive(Clone, Copy)]
 pub struct Numbers {
     pub number: u32,
     pub first: u32,
@@ -56,7 +57,7 @@ pub struct Numbers {
 }
 
 // What stands at the front of some bytes of an input.
-#[derive(Drop)]
+#[derive(Clone, Copy)]
 pub enum Front {
     // the bytes end inside a record or its length
     Short,
@@ -67,7 +68,7 @@ pub enum Front {
 }
 
 // What a hint says under an assignment. `AlreadyTrue` goes before `StillOpen`: one true literal settles it.
-#[derive(Drop)]
+#[derive(Clone, Copy)]
 pub enum Reading {
     AllFalse,
     // all but this literal are false
@@ -77,14 +78,14 @@ pub enum Reading {
 }
 
 // What a step hands back: the tally after it, and its answer.
-#[derive(Drop)]
+#[derive(Clone, Copy)]
 pub struct Outcome {
     pub tally: Tally,
     pub answer: Answer,
 }
 
 // The three numbers of a text's header.
-#[derive(Drop)]
+#[derive(Clone, Copy)]
 pub struct Header {
     pub variables: u32,
     pub clauses: u32,
@@ -93,7 +94,7 @@ pub struct Header {
 
 // What reading a text answers.
 #[repr(C)]
-#[derive(Drop)]
+#[derive(Clone, Copy)]
 pub struct TextAnswer {
     // 0, or the refusal
     pub number: u32,

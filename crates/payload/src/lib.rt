@@ -1,5 +1,6 @@
 // The numbers in the bytes of a record's payload: little-endian, signed and unsigned, and the form of an arrangement. Every
 // function is safe on bytes of any length and at any place; bytes that are missing count as zeros, as they do on paper.
+#![tactic(auto)]
 
 ghost use Rattle.std.specs.Prelude.{◌≡◌, ◌+◌, ◌*◌, ◌-◌, ◌^◌, ◌≤◌, ◌<◌, length, take, drop};
 ghost use Rattle.paper.specs.Records.{number, numbers_in, signed, literals, arrangement_form};

@@ -1,4 +1,5 @@
 // A clause read under the values of two lent rooms: all false, one literal left to be true, one true already, or more left open.
+#![tactic(auto)]
 
 ghost use Rattle.std.specs.Prelude.{◌≡◌, true, false, List, [], ◌∷◌, ◌++◌, ℕ, drop};
 ghost use Rattle.paper.specs.Derivation.{is};

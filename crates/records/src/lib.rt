@@ -1,6 +1,7 @@
 // One record, a kind and a payload, to one answer over the session in lent rooms. Refusals 11 to 13 are decided here, lowest
 // first; whatever passes them is a step of the session, and has the step's answer. Every function is safe on rooms, tallies and
 // payloads of any content; what it says, it says of each session that a caller keeps.
+#![tactic(auto)]
 
 ghost use Rattle.std.specs.Prelude.{◌≡◌, true, List, ◌++◌, ℕ, min, length};
 ghost use Rattle.paper.specs.Sizes.{narrow, wish_room};

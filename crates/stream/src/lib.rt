@@ -2,6 +2,7 @@
 // out together, some 250 at a time: a system call a record would cost more than the record. No contract can say what is read or
 // written. What is said of a turn is that it leads from the session before it to the session after the records that its block has
 // whole, and that what these leave of the block is where the next turn begins: no byte is taken twice, and none is lost.
+#![tactic(auto)]
 
 ghost use Rattle.std.specs.Prelude.{◌≡◌, ◌++◌, ◌+◌, ◌≤◌, length};
 ghost use Rattle.paper.specs.Session.{Session};
@@ -14,7 +15,7 @@ use libc::STDOUT_FILENO;
 use turns::State;
 
 // How a run went.
-#[derive(Drop)]
+#[derive(Clone, Copy)]
 pub struct Finish {
     // how many bytes of its limit it did not read
     pub unread: u64,

@@ -3,6 +3,7 @@
 // `tally_answer` for those in C and C++, as `include/tally.h` declares it: no enum can go there, so that it hands back the three
 // numbers of the answer line. Both are safe on rooms, tallies and payloads of any content; what they say, they say of each
 // session that a caller keeps.
+#![tactic(auto)]
 
 ghost use Rattle.std.specs.Prelude.{◌≡◌, ◌++◌, length};
 ghost use Rattle.paper.specs.Session.{Session};
@@ -14,7 +15,7 @@ ghost use Rattle.rooms.specs.Kept.{Kept};
 use paper::{Answer, Numbers, Tally, TextAnswer};
 
 // What a record leaves of the tally, and what it is answered.
-#[derive(Drop)]
+#[derive(Clone, Copy)]
 struct Numbered {
     tally: Tally,
     numbers: Numbers,

@@ -1,6 +1,7 @@
 // Many texts in one. Standard input is a container: a sequence of texts, each with the length of the room that is lent for its
 // records, the length of the text, 4 bytes little-endian each, and then the text's bytes. For each a line says the text's number,
 // the three numbers of the answer, and the checksum of the whole room. A length above what this program has room for ends it.
+#![tactic(auto)]
 
 ghost use Rattle.std.specs.Prelude.{◌<◌};
 

@@ -1,4 +1,6 @@
 // How many of a counter's inputs are true. 64 truths at a time go into a word, and the number of ones in it is the answer.
+#![tactic(auto)]
+
 ghost use Rattle.std.specs.Prelude.{◌≡◌, ◌+◌, ◌<◌, ◌≤◌, length};
 ghost use Rattle.std.specs.Int.Count.{ones};
 ghost use Rattle.truths.specs.Truths.{bit_of, true_bytes};

@@ -1,5 +1,6 @@
 // Where a run over standard input stands between two turns: the tally, the place of the next record, and which bytes of the buffer no
 // record has taken yet. What is left of a block goes before what is read next, so that no byte is taken twice and none is lost.
+#![tactic(auto)]
 
 ghost use Rattle.std.specs.Prelude.{◌≡◌, length};
 ghost use Rattle.turns.specs.Turns.{fresh, waiting, Within, Begins, ahead, ends, onward, Refilled};
@@ -8,7 +9,7 @@ use blocks::Progress;
 use paper::Tally;
 
 // Where a run stands between two turns.
-#[derive(Drop)]
+#[derive(Clone, Copy)]
 pub struct State {
     pub tally: Tally,
     // the place of the next record

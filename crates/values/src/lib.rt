@@ -1,4 +1,5 @@
 // The values of variables in two lent rooms. Only `at` and `put` see two rooms; all else speaks of one list, `now low ++ now high`.
+#![tactic(auto)]
 
 ghost use Rattle.std.specs.Prelude.{◌≡◌, ◌++◌, get_or, set};
 ghost use Rattle.paper.specs.Clauses.{variable};

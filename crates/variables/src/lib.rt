@@ -1,4 +1,5 @@
 // A literal's variable and its sign, and whether the literals of a clause are all of the problem's variables.
+#![tactic(auto)]
 
 ghost use Rattle.std.specs.Prelude.{◌≡◌};
 ghost use Rattle.paper.specs.Clauses.{variable, every};

@@ -1,5 +1,6 @@
 // The older WCNF text: from its bytes to records in a lent room, or to a number with the place of the fault. The work is in
 // proportion to the text and to the room, whose bytes behind the records are cleared.
+#![tactic(auto)]
 
 ghost use Rattle.std.specs.Prelude.{◌≡◌, not, ◌&&◌, [], ◌∷◌, ◌++◌, ℕ, ◌≤◌, ◌<◌, eqb, leb, length, replicate};
 ghost use Rattle.paper.specs.Sizes.{most_weight};
@@ -20,7 +21,7 @@ const MOST_WEIGHT: u32 = 1000000;
 const MOST_NUMBER: u32 = 4294967295;
 
 // Where a reading stands.
-#[derive(Drop)]
+#[derive(Clone, Copy)]
 pub struct Step {
     // 0, or the refusal
     pub number: u32,

@@ -1,12 +1,13 @@
 // The older WCNF text on standard input as records on standard output. A text that is refused gives no records, but a line on
 // standard error: the number, the place, and what is wrong there. A program ends with status 0 here whatever it found, as the
 // language has no other: a caller looks whether there are records.
+#![tactic(auto)]
 
 use libc::{STDERR_FILENO, STDIN_FILENO, STDOUT_FILENO};
 use paper::TextAnswer;
 
 // Where a byte of a text stands, both counted from 1.
-#[derive(Drop)]
+#[derive(Clone, Copy)]
 struct Spot {
     line: usize,
     column: usize,

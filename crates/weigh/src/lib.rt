@@ -2,6 +2,7 @@
 // are true of it. Where the arrangement meets the rules this is its cost, worked out a second way. The public function is safe on
 // rooms and tallies of any content; what it says, it says of each reached session that the rooms hold. The two work rooms are
 // zeros before and after: a byte to a wish, 1 where it is broken, and a byte to a counter, how many of its inputs are true.
+#![tactic(auto)]
 
 ghost use Rattle.std.specs.Prelude.{◌≡◌, true, map, ℕ, ◌+◌, ◌*◌, ◌^◌, ◌<◌, ◌≤◌, length, take, get_or, set, replicate};
 ghost use Rattle.paper.specs.Sizes.{wish_room, wish_variable, counter_start, numbers_end};

@@ -1,6 +1,7 @@
 // The remaining weights of a session in two lent rooms: a place for each wish variable, and for each counter as many places as a
 // clause has literals at most, for the outputs of its root. Every function is safe on rooms of any content and at any width; what
 // it says, it says of each function of the variable that the rooms weigh.
+#![tactic(auto)]
 
 ghost use Rattle.std.specs.Prelude.{◌≡◌, List, [], ◌∷◌, map, ℕ, ◌+◌, ◌-◌, ◌*◌, ◌^◌, ◌<◌, ◌≤◌, get_or, set};
 ghost use Rattle.paper.specs.Sizes.{wish_room, wish_variable, counter_start};
@@ -16,7 +17,7 @@ const FIRST_COUNTER: u32 = 4001;
 // ── Places ──
 
 // Where the weight of a variable stands.
-#[derive(Drop)]
+#[derive(Clone, Copy)]
 enum Place {
     InWishes(usize),
     InOutputs(usize),

@@ -1,11 +1,12 @@
 // Where the words of a text stand. A text is any bytes, and a place is counted from its first byte. Every function is safe at any
 // place; past the text's end there are no bytes. The work is in proportion to the bytes passed.
+#![tactic(auto)]
 
 ghost use Rattle.std.specs.Prelude.{◌≡◌, ◌+◌, ◌≤◌, length, drop};
 ghost use Rattle.paper.specs.Texts.{blank, comment, gap, word, line, begins};
 ghost use Rattle.words.specs.Words.{starts_line, stand_at, Next};
 
-#[derive(Drop)]
+#[derive(Clone, Copy)]
 pub struct Found {
     pub start: usize,
     pub end: usize,
