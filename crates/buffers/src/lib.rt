@@ -1,11 +1,11 @@
-// A lent buffer that standard input comes in: a part of its bytes, and its filling again, where what is left of it goes before what is
+// A lent buffer that an input comes in: a part of its bytes, and its filling again, where what is left of it goes before what is
 // read next. No contract can say what is read; what is said is where it goes, and that what was left is kept.
 #![tactic(auto)]
 
 ghost use Rattle.std.specs.Prelude.{◌≡◌, ◌+◌, ◌-◌, ◌^◌, ◌≤◌, ◌<◌, length, take};
 ghost use Rattle.buffers.specs.Parts.{part_of};
 
-use libc::STDIN_FILENO;
+use std::io::Read;
 
 // A part of some bytes, or none of them where there is no such part.
 pub fn part(bytes: &[u8], start: usize, end: usize) -> &[u8]
@@ -47,16 +47,19 @@ fn least(a: u64, b: u64) -> u64
     b
 }
 
-fn read_some(bytes: &mut [u8]) -> usize
+// How many bytes came: none where the read failed.
+fn read_some<R: Read>(source: &mut R, bytes: &mut [u8]) -> usize
     ensures { result ≤ length bytes.old }
 {
-    let got = libc::read(STDIN_FILENO, bytes);
-    io::count(got, bytes)
+    match source.read(bytes) {
+        Ok(got) => got,
+        Err(_) => 0,
+    }
 }
 
 // Reads once, behind so many bytes of the buffer, and answers how many came: none where the input has ended, where the read
 // fails, and where none may come.
-fn read_from(buffer: &mut [u8], from: usize, most: u64) -> usize
+fn read_from<R: Read>(source: &mut R, buffer: &mut [u8], from: usize, most: u64) -> usize
     ensures within { (result ≤ most) × (from + result < 2 ^ 64) }
     ensures kept { from ≤ length buffer.old
         → (take from buffer.new ≡ take from buffer.old) × (from + result ≤ length buffer.old) }
@@ -66,7 +69,22 @@ fn read_from(buffer: &mut [u8], from: usize, most: u64) -> usize
     }
     let room = least((buffer.len() - from) as u64, most) as usize;
     let end = from + room;
-    read_some(&mut buffer[from..end])
+    read_some(source, &mut buffer[from..end])
+}
+
+// Reads until the buffer is full, and answers how many bytes came: fewer where the input ended before, or a read failed.
+pub fn read_full<R: Read>(source: &mut R, buffer: &mut [u8]) -> usize
+    ensures { result ≤ length buffer.old }
+{
+    let mut at: usize = 0;
+    while at < buffer.len() {
+        let got = read_some(source, &mut buffer[at..]);
+        if got == 0 {
+            return at;
+        }
+        at += got;
+    }
+    at
 }
 
 // What a buffer has after it was filled again.
@@ -79,28 +97,34 @@ pub struct Filled {
 }
 
 // The bytes from `start` to `end` go to the front, and what is read next, at most so many bytes, stands behind them.
-pub fn refill(bytes: &mut [u8], start: usize, end: usize, most: u64) -> Filled
+pub fn refill<R: Read>(
+    source: &mut R,
+    bytes: &mut [u8],
+    start: usize,
+    end: usize,
+    most: u64,
+) -> Filled
     ensures within { result.got ≤ most }
     ensures kept { start ≤ end → end ≤ length bytes.old
         → (result.end ≡ (end - start) + result.got) × (result.end ≤ length bytes.old)
         × (take (end - start) bytes.new ≡ part_of bytes.old start end) }
 {
     let rest = move_to_front(bytes, start, end);
-    let got = read_from(bytes, rest, most);
+    let got = read_from(source, bytes, rest, most);
     Filled {
         end: rest + got,
         got: got as u64,
     }
 }
 
-// Reads so many bytes of standard input and drops them; the answer is how many of them did not come.
-pub fn skip(count: u64) -> u64
+// Reads so many bytes of an input and drops them; the answer is how many of them did not come.
+pub fn skip<R: Read>(source: &mut R, count: u64) -> u64
     ensures { result ≤ count }
 {
     let mut space = [0u8; 65536];
     let mut left = count;
     while 0 < left {
-        let got = read_from(&mut space, 0, left) as u64;
+        let got = read_from(source, &mut space, 0, left) as u64;
         if got == 0 {
             return left;
         }

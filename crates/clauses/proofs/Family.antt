@@ -79,10 +79,6 @@ ends_more most family c h =
 
 -- ── The clause at a number ──
 
-pub start_after : (ends : List ℕ) (i : ℕ) → (i ≡ 0 → ⊥) → start_in ends i ≡ get_or ends (i - 1) 0
-start_after ends zero h = absurd (h refl)
-start_after ends (suc i) h = let e : suc i - 1 ≡ i = omega arith in rw e
-
 length_flat_room : (size : ℕ) (family : List Clause) → literals_in family ≤ size → length (flat_room size family) ≡ size
 unfolding flat_room
 length_flat_room size family h = simp (length-append, length-replicate, length_flat) (omega arith)

@@ -28,7 +28,7 @@ use Rattle.clauses.specs.Family.{Holds, Appended}
 use Rattle.weights.specs.Weights.{Weighs, gained, lost, least_member, Spaced, Elsewhere}
 use Rattle.weights.proofs.Remaining.{spaced, elsewhere, least_refused, refused_least, core_least, core_remaining, core_short, core_bound, output_free}
 use Rattle.rooms.specs.Held.{HeldDerived, HeldCounters, HeldWeights, counter_room, inputs_of}
-use Rattle.rooms.proofs.Outcomes.{Refuses, Accepts, begun, closed_refuses, part_refuses, full_refuses, room_accepts}
+use Rattle.rooms.proofs.Outcomes.{Refuses, Accepts, begun, part_refuses, full_refuses, room_accepts}
 use Rattle.rooms.proofs.Families.{was_full, more_held}
 
 -- ── A counter's inputs are the core's literals ──
@@ -119,20 +119,12 @@ module _ (s : Session) (t : Tally) (eq : t ≡ tally_of s) (d : ℕ) where
     left_all : (k : ℕ) → Refuses s t (core d) k → Left k
     left_all k r = (r.out, rw r.same H, rw r.same G)
 
-    pub core_closed : t.variables ≡ 0 → Left 12
-    core_closed e = left_all 12 (closed_refuses s t eq (core d) table crowded refl plain e)
-
     module _ (begins : t.variables ≡ 0 → ⊥) where
       derived_is : t.derived ≡ length s.work.derived
       derived_is = ap (λ (x : Tally). x.derived) eq
 
       counters_are : t.counters ≡ length s.work.counters
       counters_are = ap (λ (x : Tally). x.counters) eq
-
-      pub core_absent : t.derived ≤ d → Left 21
-      core_absent h =
-          let q = derived_is in
-          left_all 21 (part_refuses s t eq (core d) table crowded refl plain begins 21 (rw (le-leb (length s.work.derived) d (omega arith))) (λ e. omega arith))
 
       -- `c` is the clause that the code read, and `w` the least weight that it found.
       module _ (there : d < t.derived) (reached : Reached s) (c : Clause) (is : c ≡ get_or s.work.derived d []) (w : ℕ)

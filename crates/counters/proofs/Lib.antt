@@ -1,5 +1,4 @@
 -- The laws that the proofs of this crate share.
-pub mod Signs
 pub mod Halves
 pub mod Holding
 pub mod Search

@@ -1,5 +1,5 @@
 -- The search for a clause by the halves, over the numbers of its parts alone.
-use mathlib.Core.Path.{◌≡◌, refl, sym, ap, ◌∙◌}
+use mathlib.Core.Path.{◌≡◌, sym, ap, ◌∙◌}
 use mathlib.Core.List.{List, [], ◌∷◌}
 use Prim.Native.Nat.{ℕ, zero, suc, ◌+◌, ◌-◌, ◌/◌, ◌<◌, ◌≤◌}
 use native.Mathlib.Omega.{arith}
@@ -61,11 +61,6 @@ module _ (from size : ℕ) (xs : Clause) (fits : from + size ≤ length xs) (two
 
 -- ── What the search finds ──
 
-pub found_here : (from size start number : ℕ) → (1 < size → number < own_clauses (size / 2) (size - size / 2))
-    → Found from size start number (from ∷ size ∷ start ∷ number ∷ [])
-found_here from size start number h =
-    record { four = refl; fewer = omega arith; inside = omega arith; room = omega arith; own = h; same = λ xs fits. refl }
-
 module _ (from size start number : ℕ) (two : 1 < size) (past : own_clauses (size / 2) (size - size / 2) ≤ number) (node : List ℕ) where
   pub found_left : number - own_clauses (size / 2) (size - size / 2) < clauses_of (size / 2)
       → Found from (size / 2) (start + size) (number - own_clauses (size / 2) (size - size / 2)) node → Found from size start number node
@@ -101,12 +96,6 @@ module _ (xs : Clause) (start number : ℕ) (node : List ℕ) (k : Found 0 (leng
   -- Its inputs, as the code cuts them out.
   abbrev cut_out : Clause
   cut_out = take (get_or node 0 0 + get_or node 1 0 - get_or node 0 0) (drop (get_or node 0 0) xs)
-
-  pub cut_long : length cut_out ≡ get_or node 1 0
-  cut_long =
-      let e : get_or node 0 0 + get_or node 1 0 - get_or node 0 0 ≡ get_or node 1 0 = omega arith in
-      ap (λ n. length (take n (drop (get_or node 0 0) xs))) e
-      ∙ length-take-le (get_or node 1 0) (drop (get_or node 0 0) xs) (omega (arith, k.inside, length-drop (get_or node 0 0) xs))
 
   pub by_node : clause_at (counter_of xs) start number ≡ clause_at (counter_of cut_out) (get_or node 2 0) (get_or node 3 0)
   by_node =

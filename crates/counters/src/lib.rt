@@ -1,6 +1,7 @@
 // The clauses of a counter by number, found by going down the halves: no clause is listed and none is stored. A counter
 // starts at 1,000,000 at most and has at most 384 variables, so that each of its variables is below 1,000,384.
 #![tactic(auto)]
+
 ghost use Rattle.std.specs.Prelude.{◌≡◌, [], ◌+◌, ◌-◌, ◌/◌, ◌<◌, ◌≤◌, pos, negsuc, length};
 ghost use Rattle.paper.specs.Clauses.{Clause};
 ghost use Rattle.paper.specs.Counters.{output, previous, unless, sum_clause, own_clauses, clause_at, variables_of, clauses_of};

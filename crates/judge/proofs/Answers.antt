@@ -12,13 +12,13 @@ use borrow.Author.Tests.{le-leb, lt-leb}
 use Rattle.paper.specs.Sizes.{rule_room}
 use Rattle.paper.specs.Clauses.{Clause, Truth, clause_true, every, pick}
 use Rattle.paper.specs.declared.Tally.{Tally}
-use Rattle.paper.specs.declared.Answer.TheVariants.{Refused, Broken}
+use Rattle.paper.specs.declared.Answer.TheVariants.{Broken}
 use Rattle.paper.specs.Session.{Session, tally_of}
 use Rattle.paper.specs.Truth.{cost}
 use Rattle.paper.specs.Steps.{judge, judged, met_before, answer}
 use Rattle.clauses.specs.Family.{Holds}
 use Rattle.rooms.specs.Held.{HeldRules}
-use Rattle.rooms.proofs.Outcomes.{closed, begun}
+use Rattle.rooms.proofs.Outcomes.{begun}
 
 -- All rules are met where as many are met before the first that is broken.
 all_met : (a : Truth) (rules : List Clause) → every (clause_true a) rules ≡ leb (length rules) (met_before a rules)
@@ -34,9 +34,6 @@ module _ (s : Session) (t : Tally) (eq : t ≡ tally_of s) where
   pub counted : {literals : List ℤ} {ends : List ℕ} → HeldRules literals ends s
       → Holds rule_room.literals rule_room.clauses literals ends t.rules s.sheet.rules
   counted H = rw eq H
-
-  pub before_opening : (a : Truth) → t.variables ≡ 0 → Refused 12 ≡ answer s (judge a)
-  before_opening a e = rw (closed s t eq e)
 
   -- `met` is how many rules are met before the first that is broken.
   module _ (a : Truth) (begins : t.variables ≡ 0 → ⊥) (met : ℕ) (met-is : met ≡ met_before a s.sheet.rules) where

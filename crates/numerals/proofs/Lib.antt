@@ -1,2 +1,2 @@
--- How a word is read digit by digit, and how a sign is.
+-- How a word is read digit by digit.
 pub mod Digits

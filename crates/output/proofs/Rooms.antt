@@ -1,14 +1,14 @@
 -- A room that is filled from its front, and cleared behind.
 use mathlib.Core.Path.{◌≡◌, refl, ◌∙◌, ap}
 use mathlib.Core.Bool.{Bool, true, false}
-use mathlib.Core.List.{List, [], ◌++◌, append_assoc, append-nil}
+use mathlib.Core.List.{List, [], ◌++◌, append_assoc}
 use Prim.Native.Nat.{ℕ, suc, ◌+◌, ◌-◌, ◌≤◌, ◌<◌}
 use native.Mathlib.Numerals.{add-one}
 use native.Mathlib.Omega.{arith}
 use lib.Dec.{leb}
 use lib.ListN.{length, take, drop, set, replicate, length-append, length-set}
-use lib.Seq.{sets, sets-eq, length-sets, take_all, take-append_seam, take-suc-set}
-use borrow.Author.Tests.{leb-true, leb-false, lt-ltb, le-ltb}
+use lib.Seq.{sets, sets-eq, length-sets, take-append_seam, take-suc-set}
+use borrow.Author.Tests.{leb-true, leb-false, le-ltb}
 use Rattle.paper.specs.Texts.{filled}
 use Rattle.lines.specs.Lines.{Written}
 use Rattle.lines.proofs.Lines.{written-append}
@@ -21,9 +21,6 @@ pub record Clearing (room₀ : List ℕ) (at : ℕ) (room : List ℕ) (i : ℕ) 
   pub same_length : length room ≡ length room₀
   pub whole : take i room ++ replicate (length room₀ - i) 0 ≡ take at room₀ ++ replicate (length room₀ - at) 0
 
-pub uncleared : (room : List ℕ) (at : ℕ) → Clearing room at room at
-uncleared room at = record { same_length = refl; whole = refl }
-
 pub cleared_more : {room₀ : List ℕ} {at : ℕ} {room : List ℕ} {i : ℕ} → Clearing room₀ at room i → i < length room
     → Clearing room₀ at (set room i 0) (i + 1)
 cleared_more {room₀} {at} {room} {i} C h =
@@ -32,12 +29,6 @@ cleared_more {room₀} {at} {room} {i} C h =
       same_length = length-set room i 0 ∙ C.same_length;
       whole = rw (add-one, take-suc-set room i 0 h, append_assoc) (rw one at C.whole);
     }
-
-pub cleared : {room₀ : List ℕ} {at : ℕ} {room : List ℕ} {i : ℕ} → Clearing room₀ at room i → length room ≤ i
-    → room ≡ take at room₀ ++ replicate (length room₀ - at) 0
-cleared {room₀} {at} {room} {i} C h =
-    let none : length room₀ - i ≡ 0 = omega (arith, C.same_length) in
-    rw (none, append-nil, take_all i room h) at C.whole
 
 -- ── Filling ──
 

@@ -10,7 +10,7 @@ use borrow.Author.Tests.{lt-ltb}
 use Rattle.paper.specs.Sizes.{most_variables}
 use Rattle.paper.specs.Clauses.{every, pick}
 use Rattle.paper.specs.Session.{Sheet, Work, Session, fresh, no_work}
-use Rattle.paper.specs.Steps.{Step, opening, rule, wish, derive, core, judge, opened, accepted, answer, reply, effect, next}
+use Rattle.paper.specs.Steps.{Step, opening, rule, wish, derive, core, judge, opened, accepted, reply, effect, next}
 use Rattle.paper.specs.Runs.{Entry, Runs, select, is_rule, is_wish, is_work}
 use Rattle.paper.specs.Promises.{AnyMixture, Reordered, opened_with}
 use Rattle.paper.specs.declared.Answer.{Answer}

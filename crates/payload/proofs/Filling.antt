@@ -1,11 +1,11 @@
 -- A room that is filled from its front with what stands in the bytes: `rest n bytes` is n elements, of `size` bytes each.
-use mathlib.Core.Path.{◌≡◌, refl, ◌∙◌}
-use mathlib.Core.List.{List, [], ◌∷◌, ◌++◌, append_assoc, append-nil}
+use mathlib.Core.Path.{◌≡◌, ◌∙◌}
+use mathlib.Core.List.{List, ◌∷◌, ◌++◌, append_assoc}
 use Prim.Native.Nat.{ℕ, suc, ◌+◌, ◌-◌, ◌<◌, ◌≤◌}
 use native.Mathlib.Numerals.{add-one}
 use native.Mathlib.Omega.{arith}
-use lib.ListN.{length, take, drop, set, length-set, drop_of_length-le}
-use lib.Seq.{drop-drop, drop-length, take_all, take-suc-set}
+use lib.ListN.{length, take, drop, set, length-set}
+use lib.Seq.{drop-drop, take-suc-set}
 
 -- What is written, with what is still to come, is the whole.
 pub record Filling {A : Type 0} (rest : ℕ → List ℕ → List A) (bytes : List ℕ) (at : ℕ) (room₀ room : List A) (place i : ℕ)
@@ -15,11 +15,6 @@ pub record Filling {A : Type 0} (rest : ℕ → List ℕ → List A) (bytes : Li
   pub whole : take i room ++ rest (length room₀ - i) (drop place bytes) ≡ rest (length room₀) (drop at bytes)
 
 module _ {A : Type 0} (rest : ℕ → List ℕ → List A) (bytes : List ℕ) (at : ℕ) (room₀ : List A) where
-  pub unwritten : Filling rest bytes at room₀ room₀ at 0
-  unwritten =
-      let e : length room₀ - 0 ≡ length room₀ = omega arith in
-      record { within = omega arith; same_length = refl; whole = rw e }
-
   -- `next` may stand for a place past the end: nothing follows either.
   pub filled_more : (size : ℕ) (read : List ℕ → A)
       → ((n : ℕ) (bytes : List ℕ) → rest (suc n) bytes ≡ read bytes ∷ rest n (drop size bytes))
@@ -35,15 +30,3 @@ module _ {A : Type 0} (rest : ℕ → List ℕ → List A) (bytes : List ℕ) (a
         same_length = length-set room i x ∙ F.same_length;
         whole = rw (add-one, take-suc-set room i x, append_assoc) was;
       }
-
-  pub filled : ((bytes : List ℕ) → rest 0 bytes ≡ []) → {room : List A} {place i : ℕ}
-      → Filling rest bytes at room₀ room place i → length room₀ ≤ i
-      → room ≡ rest (length room₀) (drop at bytes)
-  filled none {room} {place} {i} F h =
-      let e : length room₀ - i ≡ 0 = omega arith in
-      let k : length room ≤ i = omega arith in
-      rw (e, none, append-nil, take_all i room) at F.whole
-
--- From any place past the end on nothing follows.
-pub past_end : (bytes : List ℕ) (at : ℕ) → length bytes ≤ at → drop (length bytes) bytes ≡ drop at bytes
-past_end bytes at h = rw (drop-length bytes, drop_of_length-le bytes h)

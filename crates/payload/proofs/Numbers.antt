@@ -1,11 +1,11 @@
 -- A number in bytes is made of the numbers in its parts; bytes that are missing count as zeros.
-use mathlib.Core.Path.{◌≡◌, refl}
+use mathlib.Core.Path.{◌≡◌}
 use mathlib.Core.List.{List, [], ◌∷◌}
 use Prim.Native.Nat.{ℕ, zero, suc, ◌+◌, ◌*◌, ◌^◌}
 use native.Mathlib.Nat.{pow-succ', mul_assoc, mul-zero, suc-add}
 use native.Mathlib.Omega.{arith}
-use lib.ListN.{take, drop, get_or}
-use lib.Seq.{take-nil, drop-drop, get_or-drop}
+use lib.ListN.{take, drop}
+use lib.Seq.{take-nil, drop-drop}
 use Rattle.paper.specs.Records.{number}
 
 -- Where the first part is cut short, the second is 0.
@@ -20,13 +20,3 @@ pub joined : (m n at : ℕ) (bytes : List ℕ)
     → number (take (m + n) (drop at bytes))
     ≡ number (take m (drop at bytes)) + 256 ^ m * number (take n (drop (at + m) bytes))
 joined m n at bytes = rw (← drop-drop m at bytes) (parts m n (drop at bytes))
-
-first_byte : (bytes : List ℕ) → number (take 1 bytes) ≡ get_or bytes 0 0
-first_byte [] = refl
-first_byte (b ∷ bytes) = omega arith
-
-one_byte : (bytes : List ℕ) (at : ℕ) → number (take 1 (drop at bytes)) ≡ get_or bytes at 0
-one_byte bytes at = let e : at + 0 ≡ at = omega arith in rw (first_byte (drop at bytes), get_or-drop, e)
-
-pub two_bytes : (bytes : List ℕ) (at : ℕ) → number (take 2 (drop at bytes)) ≡ get_or bytes at 0 + 256 * get_or bytes (at + 1) 0
-two_bytes bytes at = omega (arith, joined 1 1 at bytes, one_byte bytes at, one_byte bytes (at + 1))

@@ -17,7 +17,7 @@ use Rattle.clauses.specs.Lowest.{Plain, lowest}
 use Rattle.clauses.specs.Family.{Appended}
 use Rattle.clauses.proofs.Lowest.{admission_plain}
 use Rattle.rooms.specs.Held.{HeldRules}
-use Rattle.rooms.proofs.Outcomes.{Refuses, closed_refuses, part_refuses, full_refuses, room_accepts}
+use Rattle.rooms.proofs.Outcomes.{Refuses, part_refuses, full_refuses, room_accepts}
 use Rattle.rooms.proofs.Families.{none_left, was_full, was_roomy, still_held, more_held}
 
 module _ (s : Session) (t : Tally) (eq : t ≡ tally_of s) (c : Clause) where
@@ -40,9 +40,6 @@ module _ (s : Session) (t : Tally) (eq : t ≡ tally_of s) (c : Clause) where
 
     left : (k : ℕ) → Refuses s t (rule c) k → Left k literals ends
     left k r = (r.out, rw r.same H)
-
-    pub rule_closed : t.variables ≡ 0 → Left 12 literals ends
-    rule_closed e = left 12 (closed_refuses s t eq (rule c) table crowded refl plain e)
 
     -- `k` is what the code found of 16, 17 and 18.
     module _ (begins : t.variables ≡ 0 → ⊥) (k : ℕ) (e : k ≡ lowest (admission s.sheet.width (problem_literal s.sheet.variables) c)) where

@@ -1,6 +1,7 @@
 // The two tables: how many variables and how many clauses a counter has, by its number of inputs. A function that names a
 // table copies it to its stack at each call, so whoever looks up more than one entry names it once and lends it down.
 #![tactic(auto)]
+
 ghost use Rattle.std.specs.Prelude.{◌≡◌, ℕ, ◌<◌, ◌≤◌};
 ghost use Rattle.paper.specs.Counters.{variables_of, clauses_of};
 ghost use Rattle.tables.specs.Tables.{table_of};

@@ -5,8 +5,8 @@
 
 ghost use Rattle.std.specs.Prelude.{◌<◌};
 
-use libc::{STDIN_FILENO, STDOUT_FILENO};
 use paper::TextAnswer;
+use std::io::{Print, Read};
 
 // The greatest prime below 65,536.
 const MODULUS: u32 = 65521;
@@ -44,31 +44,39 @@ fn checksum(bytes: &[u8]) -> u32 {
     sums * 65536 + sum
 }
 
-fn write_word(number: u64, end: &[u8]) -> bool {
-    io::print_decimal(STDOUT_FILENO, number) && io::write_all(STDOUT_FILENO, end)
-}
-
-fn write_line(number: u64, answer: TextAnswer, sum: u32) -> bool {
-    write_word(number, b" ")
-        && write_word(answer.number as u64, b" ")
-        && write_word(answer.position as u64, b" ")
-        && write_word(answer.length as u64, b" ")
-        && write_word(sum as u64, b"\n")
+fn write_line<W: Print>(sink: &W, number: u64, answer: TextAnswer, sum: u32) -> bool {
+    println!(sink;
+        "{number} {} {} {} {sum}",
+        answer.number, answer.position, answer.length
+    )
+    .is_ok()
 }
 
 // A text that the container ends inside of has the bytes that are there.
-fn answer_text(number: u64, text: &mut [u8], room: &mut [u8]) -> bool {
-    let got = io::read_full(STDIN_FILENO, text);
+fn answer_text<R: Read, W: Print>(
+    source: &mut R,
+    sink: &W,
+    number: u64,
+    text: &mut [u8],
+    room: &mut [u8],
+) -> bool {
+    let got = buffers::read_full(source, text);
     fill(room);
     let answer = wcnf::read_text(&text[..got], room);
     let sum = checksum(room);
-    write_line(number, answer, sum)
+    write_line(sink, number, answer, sum)
 }
 
 // Answers whether there was a text, and its line was written.
-fn answer_next(number: u64, texts: &mut [u8], rooms: &mut [u8]) -> bool {
+fn answer_next<R: Read, W: Print>(
+    source: &mut R,
+    sink: &W,
+    number: u64,
+    texts: &mut [u8],
+    rooms: &mut [u8],
+) -> bool {
     let mut head = [0u8; 8];
-    if io::read_full(STDIN_FILENO, &mut head) < 8 {
+    if buffers::read_full(source, &mut head) < 8 {
         return false;
     }
     let room = payload::number_of_four(&head, 0) as usize;
@@ -79,15 +87,23 @@ fn answer_next(number: u64, texts: &mut [u8], rooms: &mut [u8]) -> bool {
     if texts.len() < length {
         return false;
     }
-    answer_text(number, &mut texts[..length], &mut rooms[..room])
+    answer_text(
+        source,
+        sink,
+        number,
+        &mut texts[..length],
+        &mut rooms[..room],
+    )
 }
 
 // A proved loop has to end, and nothing says that a container does: the numbers do.
-fn main() {
+fn main(rt: HostRuntime) {
+    let mut source = rt.stdin();
+    let sink = rt.stdout();
     let mut texts = [0u8; 20000];
     let mut rooms = [0u8; 65536];
     let mut number: u64 = 1;
-    while number < u64::MAX && answer_next(number, &mut texts, &mut rooms) {
+    while number < u64::MAX && answer_next(&mut source, &sink, number, &mut texts, &mut rooms) {
         number += 1;
     }
 }

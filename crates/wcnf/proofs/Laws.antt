@@ -9,10 +9,10 @@ use lib.Dec.{eqb, leb}
 use lib.IntN.{ℤ}
 use lib.ListN.{length, take, drop}
 use lib.Seq.{sets, length-sets}
-use borrow.Author.Tests.{lt-ltb, le-ltb}
+use borrow.Author.Tests.{lt-ltb}
 use Rattle.paper.specs.declared.Header.{Header}
 use Rattle.paper.specs.Sizes.{narrow, most_weight}
-use Rattle.paper.specs.Clauses.{Clause, only}
+use Rattle.paper.specs.Clauses.{Clause}
 use Rattle.paper.specs.Session.{problem_literal}
 use Rattle.paper.specs.Answers.{lowest}
 use Rattle.paper.specs.Steps.{admission}
@@ -39,7 +39,7 @@ use Rattle.literals.proofs.Paper.{whole_clause_at, broken_clause_at}
 use Rattle.output.specs.Puts.{Put}
 use Rattle.wcnf.specs.declared.Step.{Step}
 use Rattle.wcnf.specs.Rooms.{Keeps}
-use Rattle.wcnf.specs.Steps.{clause_from, Taken, OneClause}
+use Rattle.wcnf.specs.Steps.{clause_from, OneClause}
 
 -- ── 15 to 18 ──
 

@@ -7,7 +7,6 @@ use Prim.Native.Nat.{ℕ, ◌-◌, ◌≤◌, ◌<◌}
 use native.Mathlib.Omega.{arith}
 use lib.ListN.{length, take, replicate}
 use borrow.Author.Tests.{lt-ltb, le-ltb, le-leb, lt-leb}
-use Rattle.paper.specs.declared.TextAnswer.{TextAnswer}
 use Rattle.paper.specs.Sizes.{most_variables}
 use Rattle.paper.specs.Clauses.{pick}
 use Rattle.paper.specs.Texts.{

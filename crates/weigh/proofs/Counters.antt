@@ -1,14 +1,12 @@
 -- One counter as it is weighed: the truths of its inputs, how many are true, and the weight on its root outputs that are true.
 use mathlib.Core.Path.{◌≡◌, refl, sym, ap, ◌∙◌}
 use mathlib.Core.Bool.{true}
-use mathlib.Core.List.{List, [], ◌∷◌, map, map-append}
+use mathlib.Core.List.{List, [], ◌∷◌, map}
 use Prim.Native.Nat.{ℕ, suc, ◌+◌, ◌-◌, ◌*◌, ◌<◌, ◌≤◌, min}
-use native.Mathlib.Numerals.{add-one}
 use native.Mathlib.Omega.{arith}
 use lib.Dec.{ltb}
 use lib.IntN.{ℤ, pos}
-use lib.ListN.{length, take, get_or, set, length-map, get_or-map}
-use lib.Seq.{take-suc, take-suc-set}
+use lib.ListN.{length, get_or, set, length-map, get_or-map}
 use borrow.Author.Tests.{lt-ltb, le-ltb}
 use Rattle.paper.specs.Sizes.{first_wish, wish_variable, first_counter, counter_start}
 use Rattle.paper.specs.declared.Width.{Width}
@@ -34,19 +32,6 @@ same_truths : (g h : ℕ → ℕ) (xs : List ℕ) → ((i : ℕ) → i < length 
     → map (λ l. g (variable l)) (map pos xs) ≡ map h xs
 same_truths g h [] e = refl
 same_truths g h (x ∷ xs) e = rw (e 0 (omega arith), same_truths g h xs (λ i k. e (suc i) (omega arith)))
-
--- One truth more, `y`, of the input at place i.
-pub gathered_more : (g : ℤ → ℕ) (truths : List ℕ) (xs : List ℤ) (i y : ℕ) → i < length truths → i < length xs
-    → y ≡ g (get_or xs i (pos 0)) → take i truths ≡ map g (take i xs) → take (i + 1) (set truths i y) ≡ map g (take (i + 1) xs)
-gathered_more g truths xs i y h k e so =
-    rw (
-      add-one i,
-      take-suc-set truths i y h,
-      take-suc xs i (pos 0) k,
-      map-append g (take i xs) (get_or xs i (pos 0) ∷ []),
-      so,
-      e,
-    )
 
 -- A count of true inputs fits a byte.
 pub few_true : (g : ℤ → ℕ) (xs : List ℤ) (n : ℕ) → n ≡ true_bytes (map g xs) → n ≤ length xs

@@ -1,34 +1,22 @@
 -- The least weight of a clause's members, literal by literal and whole.
 use mathlib.Core.Path.{◌≡◌, refl, sym, ap, ◌∙◌}
-use mathlib.Core.Bool.{Bool, true, false, ◌&&◌, true≢false, false≢true}
+use mathlib.Core.Bool.{Bool, true, false, ◌&&◌, false≢true}
 use mathlib.Core.List.{List, [], ◌∷◌, ◌++◌, map, map-append}
-use Prim.Native.Nat.{ℕ, zero, suc, ◌+◌, ◌<◌, min}
+use Prim.Native.Nat.{ℕ, ◌+◌, ◌<◌, min}
 use native.Mathlib.Numerals.{add-one}
 use native.Mathlib.Omega.{arith}
 use lib.Dec.{ltb}
-use lib.IntN.{ℤ, pos, negsuc}
+use lib.IntN.{ℤ, pos}
 use lib.ListN.{length, get_or, take, length-map}
 use lib.Seq.{take-suc, length-take-le}
 use borrow.Author.Tests.{lt-ltb, le-ltb, ltb-true, ne_eqb}
-use Rattle.paper.specs.declared.Width.{Width}
 use Rattle.paper.specs.Clauses.{Clause, variable, positive, every, only}
 use Rattle.paper.specs.Session.{spread}
 use Rattle.paper.specs.Steps.{least_from, least}
 use Rattle.paper.proofs.Lists.{and_split, every-at, every-snoc}
-use Rattle.variables.specs.Literals.{negative}
-use Rattle.weights.specs.Weights.{Elsewhere, is_member, member_weight, least_member}
+use Rattle.weights.specs.Weights.{is_member, member_weight, least_member}
 
 -- ── One literal ──
-
-pub negative_weight : (f : ℕ → ℕ) (l : ℤ) → negative l ≡ true → 0 ≡ member_weight f l
-negative_weight f (pos v) e = absurd (false≢true e)
-negative_weight f (negsuc v) e = refl
-
--- Literal 0 has no place.
-pub other_weight : (u : Width) (f : ℕ → ℕ) → Elsewhere u f → (l : ℤ) → negative l ≡ false → f (variable l) ≡ member_weight f l
-other_weight u f none (pos zero) e = none 0 refl
-other_weight u f none (pos (suc v)) e = rw (lt-ltb 0 (suc v) (omega arith))
-other_weight u f none (negsuc v) e = absurd (true≢false e)
 
 pub some_weight : (f : ℕ → ℕ) (l : ℤ) → 0 < member_weight f l → (is_member f l ≡ true) × (member_weight f l ≡ f (variable l))
 some_weight f l h = go (positive l) h
@@ -90,10 +78,6 @@ none_least f c i h e = go (ltb 0 (length c)) (every (is_member f) c) refl
     go true true q = absurd (false≢true (sym (no_weight f (get_or c i (pos 0)) e) ∙ every-at (is_member f) (pos 0) c q i h))
     go true false q = refl
     go false b q = refl
-
-pub all_least : (f : ℕ → ℕ) (c : Clause) → every (is_member f) c ≡ true → least f (map variable c) ≡ least_member f c
-all_least f [] e = refl
-all_least f (l ∷ c) e = rw (lt-ltb 0 (length (l ∷ c)) (omega arith), e)
 
 least_from_some : (f : ℕ → ℕ) (l : ℤ) (c : Clause) → every (is_member f) (l ∷ c) ≡ true
     → 0 < least_from f (variable l) (map variable c)

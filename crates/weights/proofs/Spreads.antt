@@ -21,12 +21,6 @@ module _ (w : ℕ) where
   spread-append [] ys v = omega arith
   spread-append (x ∷ xs) ys v = omega (arith, spread-append xs ys v)
 
-  pub gained_none : (f : ℕ → ℕ) → f ≡ gained f w []
-  gained_none f = fun_ext (λ v. omega arith)
-
-  pub lost_none : (f : ℕ → ℕ) → f ≡ lost f w []
-  lost_none f = fun_ext (λ v. omega arith)
-
   -- One variable after the others.
   module _ (f : ℕ → ℕ) (xs : List ℕ) (x : ℕ) where
     pub gained_more : gained (gained f w xs) w (x ∷ []) ≡ gained f w (xs ++ (x ∷ []))
@@ -52,9 +46,3 @@ from_more a (suc n) = rw (from_more (suc a) n, add-suc a n, suc-add a n)
 pub upper_more : (start t : ℕ) → 0 < t → upper_outputs start (t + 1) ≡ upper_outputs start t ++ ((start + t) ∷ [])
 upper_more start zero h = absurd (omega arith)
 upper_more start (suc t) h = rw (add-one (suc t), from_more (suc start) t, suc-add start t, ← (add-suc start t))
-
--- Up to one input there are none.
-pub upper_none : (start m : ℕ) → m ≤ 1 → upper_outputs start m ≡ []
-upper_none start zero h = refl
-upper_none start (suc zero) h = refl
-upper_none start (suc (suc m)) h = absurd (omega arith)

@@ -8,7 +8,7 @@ use lib.Dec.{leb, lit<}
 use lib.IntN.{ℤ}
 use lib.ListN.{length, set, replicate, length-append, length-map}
 use lib.Seq.{set_at, append_snoc}
-use borrow.Author.Tests.{lt-leb, le-leb}
+use borrow.Author.Tests.{le-leb}
 use Rattle.paper.specs.Sizes.{wish_room, most_weight, wish_variable}
 use Rattle.paper.specs.declared.Tally.{Tally}
 use Rattle.paper.specs.declared.Answer.TheVariants.{Wish as WishAdded, Refused}
@@ -23,7 +23,7 @@ use Rattle.clauses.proofs.Lowest.{admission_plain}
 use Rattle.weights.specs.Weights.{Weighs, gained}
 use Rattle.weights.proofs.Remaining.{wish_remaining, wish_free}
 use Rattle.rooms.specs.Held.{HeldIn, HeldWishes, HeldWeights, wish_family, weights_room}
-use Rattle.rooms.proofs.Outcomes.{Refuses, closed_refuses, part_refuses, full_refuses, room_accepts}
+use Rattle.rooms.proofs.Outcomes.{Refuses, part_refuses, full_refuses, room_accepts}
 use Rattle.rooms.proofs.Families.{none_left, was_full, was_roomy, still_held, more_held}
 
 -- ── The weights with one more ──
@@ -69,18 +69,7 @@ module _ (s : Session) (t : Tally) (eq : t ≡ tally_of s) (w : ℕ) (c : Clause
     left_all : (k : ℕ) → Refuses s t (wish w c) k → Left k literals ends
     left_all k r = (r.out, rw r.same H, rw r.same G)
 
-    pub wish_closed : t.variables ≡ 0 → Left 12 literals ends
-    wish_closed e = left_all 12 (closed_refuses s t eq (wish w c) table crowded refl plain e)
-
     module _ (begins : t.variables ≡ 0 → ⊥) where
-      pub wish_light : w < 1 → Left 15 literals ends
-      wish_light h =
-          left_all 15 (part_refuses s t eq (wish w c) table crowded refl plain begins 15 (rw (lt-leb 1 w h)) (λ e. omega arith))
-
-      pub wish_heavy : 1 ≤ w → most_weight < w → Left 15 literals ends
-      wish_heavy h g =
-          left_all 15 (part_refuses s t eq (wish w c) table crowded refl plain begins 15 (rw (le-leb 1 w h, lt-leb w most_weight g)) (λ e. omega arith))
-
       -- `k` is what the code found of 16, 17 and 18.
       module _ (some : 1 ≤ w) (light : w ≤ most_weight) (k : ℕ)
           (e : k ≡ lowest (admission s.sheet.width (problem_literal s.sheet.variables) c)) where

@@ -55,6 +55,7 @@ pub fn skip_blanks(text: &[u8], at: usize) -> usize
 
 // Hands back behind the LF, as a comment may follow. The stack holds two calls for each comment, and none for a blank line.
 #[cycle(skip_blanks_skip_comment)]
+#[tactic(auto, using(crate::proofs::Gaps::comment_ends))]
 pub fn skip_comment(text: &[u8], at: usize) -> usize
     ensures { result ≡ at + gap comment (drop at text.now) }
 {

@@ -1,4 +1,4 @@
-use Rattle.std.proofs.Common.{arith, pos, ◌+◌}
+use Rattle.std.proofs.Common.{arith}
 use Rattle.std.proofs.lemmas.Grind.{common_steps}
 use Rattle.variables.proofs.Every.{every_from}
 use Rattle.variables.proofs.all_problem.Goals as goal

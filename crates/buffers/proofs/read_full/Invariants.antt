@@ -1,0 +1,9 @@
+-- No more bytes have come than the buffer has room for.
+use Rattle.std.proofs.Common.{◌-◌, ◌≤◌, length}
+use Rattle.buffers.proofs.read_full.Given as goal
+
+abbrev pub invariant-loop-at : goal.invariant-loop-at
+invariant-loop-at g l = l.at ≤ length l.buffer
+
+abbrev pub decreases-loop-at : goal.decreases-loop-at
+decreases-loop-at g l = length l.buffer - l.at

@@ -1,0 +1,10 @@
+-- Each turn is one law of Reading: what is still to come leads where the whole does.
+use Rattle.std.proofs.Common.{length, ◌-◌}
+use Rattle.literals.proofs.Reading.{Reading}
+use Rattle.literals.proofs.read_literals.Given as goal
+
+abbrev pub invariant-loop-at : goal.invariant-loop-at
+invariant-loop-at l = Reading l.text l.at l.initial.room l.room l.place l.count
+
+abbrev pub decreases-loop-at : goal.decreases-loop-at
+decreases-loop-at l = length l.text - l.place

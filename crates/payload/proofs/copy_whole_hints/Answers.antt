@@ -1,0 +1,15 @@
+use Rattle.std.proofs.Common.{ℕ, List, arith, refl, take}
+use Rattle.paper.specs.Records.{number, numbers_in}
+use Rattle.payload.proofs.Filling.{filled_more}
+use Rattle.payload.proofs.copy_whole_hints.Goals as goal
+
+abbrev read : List ℕ → ℕ
+read bytes = number (take 8 bytes)
+
+pub loop-i-preserved : goal.loop-i-preserved
+loop-i-preserved c =
+    let a = c.args in record {
+      filling = filled_more (numbers_in 8) a.bytes.now a.at a.words.now 8 read (λ n bytes. refl) c.loop-i.invariant.filling (omega arith)
+          c.eight_bytes.ensures refl;
+      placed = omega arith;
+    }
