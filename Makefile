@@ -1,10 +1,9 @@
 # The project's commands; README.md says what they are for.
-.PHONY: worked independent test library corpus fuzz fuzz-texts bench
+.PHONY: worked independent test programs library corpus fuzz fuzz-texts bench
 
 tally = independent/build/tally
 
-# The verified programs, as rt builds them, and what goes before a run of one;
-# on a machine that is not x86-64 an empty RUN stands for the kit's emulator.
+# The verified programs, as rt builds them, and what goes before a run of one.
 RUNNER = target/bin/runner
 CORPUS = target/bin/corpus
 TEXT_CORPUS = target/bin/texts
@@ -28,6 +27,10 @@ test: independent
 	@$(MAKE) --silent --no-print-directory -C independent test
 	@sh tools/stored.sh check $(tally)
 	@RUN='$(RUN)' sh tools/gate.sh
+
+# The verified programs in target/bin.
+programs:
+	@sh tools/programs.sh
 
 # The static library for C, proved and built, with the programs of examples/ on it.
 library:

@@ -1,6 +1,6 @@
 /* The verified tally for C and C++: one record to one answer, over a session
  * that the caller keeps, and a sheet's text to records. The library is
- * target/staticlib/libtally.a, which `rt staticlib tally` proves and builds; it
+ * target/staticlib/libtally.a, which `make library` proves and builds; it
  * is for x86-64 Linux, uses no heap, no global variable and no system call, and
  * needs nothing but memcpy and memset of the C library.
  *

@@ -1,7 +1,6 @@
 #!/bin/sh
 # The verified runner against the independent program, which is compiled by the
-# kit's clang at -O3 and linked as the kit links its programs, so that both are
-# x86-64 ones on every machine. They run in turn on the same inputs; wall time
+# kit's clang at -O3 and linked as the kit links its programs. They run in turn on the same inputs; wall time
 # with the lines thrown away, the fastest of nine runs each: what else a machine
 # does only adds to a time.
 #   bench.sh TALLY RUNNER      (from the repository's root)
@@ -29,7 +28,7 @@ build_yardstick() {
             -c -o "$work/objects/$name.o" "$source"
         objects="$objects $work/objects/$name.o"
     done
-    "$kit_own/bin/rattle-link" --target x86_64-unknown-linux-gnu --toolchain "$kit_tools" \
+    "$kit/bin/rattle-link" --target x86_64-unknown-linux-gnu --toolchain "$kit_tools" \
         -o "$work/tally" $objects 2> "$work/link.said" || { cat "$work/link.said"; exit 2; }
 }
 

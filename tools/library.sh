@@ -1,8 +1,8 @@
 #!/bin/sh
 # The static library for C: it is proved and built, the examples are compiled
 # by the kit's clang against include/tally.h and linked with it as the kit links
-# its programs, so that they are x86-64 ones on every machine, and what they
-# print is compared. The header is read as C++ too.
+# its programs, and what they print is compared. `tally_c` has the exports; its
+# archive is handed on as libtally.a, the name that C programs link. The header is read as C++ too.
 #   library.sh      (from the repository's root)
 set -eu
 . "$(dirname "$0")/kit.sh"
@@ -19,12 +19,14 @@ compile() { # what clang is to do, with its words
 }
 
 build_library() {
-    "$rt" staticlib tally > "$work/said" 2>&1 || { cat "$work/said"; exit 1; }
+    (cd crates/tally_c && "$rt" lib) > "$work/said" 2>&1 || { cat "$work/said"; exit 1; }
+    mkdir -p "$(dirname "$library")"
+    cp crates/tally_c/out/libtally_c.a "$library"
 }
 
 run_example() { # name, file with what it has to print
     compile -std=c11 -c -o "$work/$1.o" "examples/$1.c"
-    "$kit_own/bin/rattle-link" --target x86_64-unknown-linux-gnu --toolchain "$kit_tools" \
+    "$kit/bin/rattle-link" --target x86_64-unknown-linux-gnu --toolchain "$kit_tools" \
         -o "$work/$1" "$work/$1.o" "$library" 2> "$work/said" || { cat "$work/said"; exit 2; }
     $run "$work/$1" > "$work/$1.lines"
     cmp "$work/$1.lines" "$2" ||

@@ -63,7 +63,7 @@ fn answer_next(
     ensures moved { Moved progress result size (length out.old) (length out.new) }
     ensures ran { CarriedOn progress.tally
         (record {
-          rules = rules.entry.now;
+          rules = rules.old;
           rule_ends = rule_ends.old;
           wishes = wishes.old;
           wish_ends = wish_ends.old;
@@ -79,7 +79,7 @@ fn answer_next(
         progress.place progress.consumed progress.written out.old
         (record_in size (drop progress.consumed block.now) ∷ []) result out.new
         (record {
-          rules = rules.exit.now;
+          rules = rules.new;
           rule_ends = rule_ends.new;
           wishes = wishes.new;
           wish_ends = wish_ends.new;
@@ -158,7 +158,7 @@ fn run_records(
     ensures short { result.written ≤ 65 * most }
     ensures ran { CarriedOn tally
         (record {
-          rules = rules.entry.now;
+          rules = rules.old;
           rule_ends = rule_ends.old;
           wishes = wishes.old;
           wish_ends = wish_ends.old;
@@ -173,7 +173,7 @@ fn run_records(
         (low.old ++ high.old)
         place 0 0 out.old (records_in most block.now) result out.new
         (record {
-          rules = rules.exit.now;
+          rules = rules.new;
           rule_ends = rule_ends.new;
           wishes = wishes.new;
           wish_ends = wish_ends.new;
@@ -261,7 +261,7 @@ pub fn run_block(
     ensures ran { (s : Session)
         → Kept tally
         (record {
-          rules = rules.entry.now;
+          rules = rules.old;
           rule_ends = rule_ends.old;
           wishes = wishes.old;
           wish_ends = wish_ends.old;
@@ -278,7 +278,7 @@ pub fn run_block(
         × (out.new ≡ sets out.old 0 (text (lines_in last place s block.now (taken_from place block.now))))
         × Kept result.tally
         (record {
-          rules = rules.exit.now;
+          rules = rules.new;
           rule_ends = rule_ends.new;
           wishes = wishes.new;
           wish_ends = wish_ends.new;

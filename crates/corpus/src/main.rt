@@ -2,37 +2,29 @@
 // which are the run's input. Each run starts from a fresh session, and a heading with its number stands before its answer lines.
 #![tactic(auto)]
 
-use libc::{STDIN_FILENO, STDOUT_FILENO};
-
-fn write_heading(number: u64) -> bool {
-    if !io::write_all(STDOUT_FILENO, b"run ") {
-        return false;
-    }
-    if !io::print_decimal(STDOUT_FILENO, number) {
-        return false;
-    }
-    io::write_all(STDOUT_FILENO, b"\n")
-}
+use std::io::{Print, Read};
 
 // Answers whether there was a whole run, and its lines were written. A run that stops early leaves bytes behind, which are not the
 // next one's length.
-fn run_next(number: u64) -> bool {
+fn run_next<R: Read, W: Print>(source: &mut R, sink: &W, number: u64) -> bool {
     let mut bytes = [0u8; 4];
-    if io::read_full(STDIN_FILENO, &mut bytes) < 4 {
+    if buffers::read_full(source, &mut bytes) < 4 {
         return false;
     }
-    if !write_heading(number) {
+    if println!(sink; "run {number}").is_err() {
         return false;
     }
-    let finish = stream::run(payload::number_of_four(&bytes, 0) as u64);
-    let missing = buffers::skip(finish.unread);
+    let finish = stream::run(source, sink, payload::number_of_four(&bytes, 0) as u64);
+    let missing = buffers::skip(source, finish.unread);
     finish.written && missing == 0
 }
 
 // A proved loop has to end, and nothing says that a container does: the numbers do.
-fn main() {
+fn main(rt: HostRuntime) {
+    let mut source = rt.stdin();
+    let sink = rt.stdout();
     let mut number: u64 = 1;
-    while number < u64::MAX && run_next(number) {
+    while number < u64::MAX && run_next(&mut source, &sink, number) {
         number += 1;
     }
 }

@@ -53,7 +53,7 @@ fn follow_hints(
         ≡ unmarked (low.old ++ high.old) trail.old count }
     ensures answer { (s : Session) → Reached s
         → HeldClauses (record {
-          rules = rules.entry.now;
+          rules = rules.now;
           rule_ends = rule_ends.now;
           wishes = wishes.now;
           wish_ends = wish_ends.now;
@@ -166,7 +166,7 @@ pub fn misfit_of(
     ensures kept { (low.new ≡ low.old) × (high.new ≡ high.old) }
     ensures answer { (s : Session) → Reached s
         → HeldClauses (record {
-          rules = rules.entry.now;
+          rules = rules.now;
           rule_ends = rule_ends.now;
           wishes = wishes.now;
           wish_ends = wish_ends.now;

@@ -26,7 +26,7 @@ use Rattle.clauses.specs.Family.{Appended}
 use Rattle.clauses.proofs.Lowest.{admission_plain, none_applies}
 use Rattle.derive.specs.Derivations.{hinted}
 use Rattle.rooms.specs.Held.{HeldDerived, Zeros}
-use Rattle.rooms.proofs.Outcomes.{Refuses, closed_refuses, part_refuses, full_refuses, room_accepts}
+use Rattle.rooms.proofs.Outcomes.{Refuses, part_refuses, full_refuses, room_accepts}
 use Rattle.rooms.proofs.Families.{none_left, was_full, was_roomy, still_held, more_held}
 
 -- ── Hints as words ──
@@ -108,9 +108,6 @@ module _ (s : Session) (t : Tally) (eq : t ≡ tally_of s) (c : Clause) (words :
 
     left : (k : ℕ) → Refuses s t (derive c (map hint_in words)) k → Left k literals ends
     left k r = (r.out, rw r.same H)
-
-    pub derive_closed : t.variables ≡ 0 → Left 12 literals ends
-    derive_closed e = left 12 (closed_refuses s t eq (derive c (map hint_in words)) (front ++ rest) crowded refl plain e)
 
     -- `k` is what the code found of 16, 17 and 18.
     module _ (begins : t.variables ≡ 0 → ⊥) (k : ℕ) (e : k ≡ lowest (admission s.sheet.width (named_literal s.sheet s.work) c)) where

@@ -59,7 +59,7 @@ pub fn derive(
     ensures kept { (low.new ≡ low.old) × (high.new ≡ high.old) }
     ensures stepped { (s : Session) → Reached s → tally ≡ tally_of s
         → HeldClauses (record {
-          rules = rules.entry.now;
+          rules = rules.now;
           rule_ends = rule_ends.now;
           wishes = wishes.now;
           wish_ends = wish_ends.now;

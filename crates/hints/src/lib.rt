@@ -112,7 +112,7 @@ pub fn read_hint(
     ensures forces { ForcesOpen (low.now ++ high.now) result }
     ensures reads { (s : Session) → Reached s
         → HeldClauses (record {
-          rules = rules.entry.now;
+          rules = rules.now;
           rule_ends = rule_ends.now;
           wishes = wishes.now;
           wish_ends = wish_ends.now;

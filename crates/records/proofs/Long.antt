@@ -90,11 +90,8 @@ length_numbers : (size count : ℕ) (bytes : List ℕ) → length (numbers_in si
 length_numbers size zero bytes = refl
 length_numbers size (suc count) bytes = ap suc (length_numbers size count (drop size bytes))
 
-pub length_literals : (count : ℕ) (bytes : List ℕ) → length (literals count bytes) ≡ count
+length_literals : (count : ℕ) (bytes : List ℕ) → length (literals count bytes) ≡ count
 length_literals count bytes = length-map (numbers_in 4 count bytes) signed ∙ length_numbers 4 count bytes
-
-pub length_words : (count : ℕ) (bytes : List ℕ) → length (numbers_in 8 count bytes) ≡ count
-length_words = length_numbers 8
 
 length_hints : (count : ℕ) (bytes : List ℕ) → length (hints count bytes) ≡ count
 length_hints count bytes = length-map (numbers_in 8 count bytes) hint_in ∙ length_numbers 8 count bytes

@@ -1,4 +1,4 @@
--- A record's own refusals, 11 to 13, and what is left when none of them applies.
+-- A record's own refusals, and what is left when none of them applies.
 use mathlib.Core.Path.{◌≡◌}
 use mathlib.Core.Bool.{true, false, not, ◌&&◌}
 use Prim.Native.Nat.{ℕ}
@@ -24,18 +24,11 @@ module _ (s : Session) (r : Record) where
     pub after : next s m ≡ record_next s r
 
   module _ (t : Tally) (eq : t ≡ tally_of s) where
-    pub unknown : (leb 1 r.kind && leb r.kind 6) ≡ false → Refuses t 11
-    unknown e = record { answers = rw e; out = rw (eq, e); same = rw e }
-
     module _ (known : (leb 1 r.kind && leb r.kind 6) ≡ true) where
       pub untimely : pick (eqb r.kind 1) (opened s) (not (opened s)) ≡ true → Refuses t 12
       untimely e = record { answers = rw (known, e); out = rw (eq, known, e); same = rw (known, e) }
 
       module _ (timely : pick (eqb r.kind 1) (opened s) (not (opened s)) ≡ false) where
-        pub malformed : formed s.sheet.variables r.kind r.payload ≡ false → Refuses t 13
-        malformed e =
-            record { answers = rw (known, timely, e); out = rw (eq, known, timely, e); same = rw (known, timely, e) }
-
         pub well_formed : formed s.sheet.variables r.kind r.payload ≡ true → Comes (step r)
         well_formed e =
             record { answers = rw (known, timely, e); out = rw (known, timely, e); after = rw (known, timely, e) }

@@ -352,7 +352,7 @@ pub fn answer_record(
     ensures answered { (s : Session)
         → Kept tally
         (record {
-          rules = rules.entry.now;
+          rules = rules.old;
           rule_ends = rule_ends.old;
           wishes = wishes.old;
           wish_ends = wish_ends.old;
@@ -368,7 +368,7 @@ pub fn answer_record(
         → (result ≡ record_outcome s (record { kind = kind; payload = payload.now }))
         × Kept result.tally
         (record {
-          rules = rules.exit.now;
+          rules = rules.new;
           rule_ends = rule_ends.new;
           wishes = wishes.new;
           wish_ends = wish_ends.new;

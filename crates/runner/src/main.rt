@@ -1,6 +1,6 @@
 // The tally as a program: records on standard input, an answer line for each on standard output.
 #![tactic(auto)]
 
-fn main() {
-    stream::run(u64::MAX);
+fn main(rt: HostRuntime) {
+    stream::run(&mut rt.stdin(), &rt.stdout(), u64::MAX);
 }

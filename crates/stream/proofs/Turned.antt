@@ -10,7 +10,7 @@ use Rattle.paper.specs.declared.Front.{Front}
 use Rattle.paper.specs.declared.Front.TheVariants.{Short, Wrong, Whole}
 use Rattle.paper.specs.declared.Tally.{Tally}
 use Rattle.paper.specs.Session.{Session}
-use Rattle.paper.specs.Inputs.{front, onFront, record_in, records_in, bytes_of, after}
+use Rattle.paper.specs.Inputs.{front, records_in, bytes_of, after}
 use Rattle.paper.proofs.Inputs.{stands, payload_long, none_at}
 use Rattle.rooms.specs.Held.{Rooms}
 use Rattle.rooms.specs.Kept.{Kept}

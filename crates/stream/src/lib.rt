@@ -1,4 +1,4 @@
-// A run of the tally over standard input, with its answer lines on standard output. Input comes in blocks of 64 KiB and lines go
+// A run of the tally over an input, with its answer lines on an output. Input comes in blocks of 64 KiB and lines go
 // out together, some 250 at a time: a system call a record would cost more than the record. No contract can say what is read or
 // written. What is said of a turn is that it leads from the session before it to the session after the records that its block has
 // whole, and that what these leave of the block is where the next turn begins: no byte is taken twice, and none is lost.
@@ -11,7 +11,7 @@ ghost use Rattle.rooms.specs.Kept.{Kept};
 ghost use Rattle.turns.specs.Turns.{waiting, Within, Begins};
 ghost use Rattle.stream.specs.Taken.{taken, unanswered, Standing};
 
-use libc::STDOUT_FILENO;
+use std::io::{Print, Read};
 use turns::State;
 
 // How a run went.
@@ -25,7 +25,9 @@ pub struct Finish {
 
 // Answers the records that stand whole in the buffer, as many as one call takes. Only where there is none is anything moved or
 // read. A turn is asked for only where a session is kept, so that what is said of a turn holds of every one of a run.
-fn turn(
+fn turn<R: Read, W: Print>(
+    source: &mut R,
+    sink: &W,
     state: State,
     rules: &mut [i32; 16384],
     rule_ends: &mut [u32; 2048],
@@ -45,7 +47,7 @@ fn turn(
 ) -> State
     requires standing { Standing state.tally
         (record {
-          rules = rules.now;
+          rules = rules.old;
           rule_ends = rule_ends.old;
           wishes = wishes.old;
           wish_ends = wish_ends.old;
@@ -66,7 +68,7 @@ fn turn(
     ensures turned { (s : Session)
         → Kept state.tally
         (record {
-          rules = rules.entry.now;
+          rules = rules.old;
           rule_ends = rule_ends.old;
           wishes = wishes.old;
           wish_ends = wish_ends.old;
@@ -82,7 +84,7 @@ fn turn(
         → (result.place ≡ state.place + length (taken state input.old))
         × Kept result.tally
         (record {
-          rules = rules.exit.now;
+          rules = rules.new;
           rule_ends = rule_ends.new;
           wishes = wishes.new;
           wish_ends = wish_ends.new;
@@ -116,7 +118,7 @@ fn turn(
         state.place,
         out,
     );
-    let written = io::write_all(STDOUT_FILENO, buffers::part(out, 0, done.written));
+    let written = sink.write_all(buffers::part(out, 0, done.written)).is_ok();
     let next = turns::after(state, done, written);
     if next.over {
         return next;
@@ -124,12 +126,12 @@ fn turn(
     if 0 < done.consumed {
         return next;
     }
-    turns::refill(next, input)
+    turns::refill(source, next, input)
 }
 
-// One run from a fresh session, over at most so many bytes of standard input. A proved loop has to end, and nothing says that an
+// One run from a fresh session, over at most so many bytes of an input. A proved loop has to end, and nothing says that an
 // input does: so the turns are counted down, from a number that no run uses up.
-pub fn run(limit: u64) -> Finish
+pub fn run<R: Read, W: Print>(source: &mut R, sink: &W, limit: u64) -> Finish
     ensures { result.unread ≤ limit }
 {
     let mut rules = [0i32; 16384];
@@ -152,6 +154,8 @@ pub fn run(limit: u64) -> Finish
     while 0 < turns && !state.over {
         turns -= 1;
         state = turn(
+            source,
+            sink,
             state,
             &mut rules,
             &mut rule_ends,

@@ -7,6 +7,7 @@ ghost use Rattle.turns.specs.Turns.{fresh, waiting, Within, Begins, ahead, ends,
 
 use blocks::Progress;
 use paper::Tally;
+use std::io::Read;
 
 // Where a run stands between two turns.
 #[derive(Clone, Copy)]
@@ -95,12 +96,12 @@ pub fn after(state: State, done: Progress, written: bool) -> State
 }
 
 // What is left of a block goes before what is read next, so that the record that it begins stands whole.
-pub fn refill(state: State, input: &mut [u8]) -> State
+pub fn refill<R: Read>(source: &mut R, state: State, input: &mut [u8]) -> State
     ensures stands { Refilled state result }
     ensures kept { Within state (length input.old)
         → Within result (length input.new) × Begins (waiting result input.new) (waiting state input.old) }
 {
-    let filled = buffers::refill(input, state.start, state.end, state.unread);
+    let filled = buffers::refill(source, input, state.start, state.end, state.unread);
     let tally = state.tally;
     State {
         tally: tally,

@@ -52,9 +52,6 @@ abbrev pub Cleared : ℕ → List ℕ → ℕ → ℕ → Type 0
 Cleared size room done count =
     (length room ≡ size) × ((i : ℕ) → i < done → get_or room i 0 ≡ 0) × ((i : ℕ) → count ≤ i → get_or room i 0 ≡ 0)
 
-pub cleared_none : {size count : ℕ} {room : List ℕ} {f : ℕ → ℕ} → Marked size room count f → Cleared size room 0 count
-cleared_none M = (M.size_is, λ i h. absurd (omega arith), M.zeros)
-
 set_zero : (room : List ℕ) (i : ℕ) → get_or (set room i 0) i 0 ≡ 0
 set_zero [] i = refl
 set_zero (x ∷ xs) zero = refl

@@ -1,0 +1,30 @@
+-- Zeroed rooms keep the fresh session, and the definitions' run of the bytes has the worked lines.
+use Rattle.std.proofs.Common.{◌≡◌, refl, sym, ap, ◌∙◌, true, List, length}
+use Rattle.std.proofs.lemmas.List.Edits.{sets}
+use Rattle.paper.specs.Session.{fresh}
+use Rattle.paper.specs.Runs.{Line}
+use Rattle.paper.specs.Inputs.{text}
+use Rattle.paper.specs.Worked.{input_bytes}
+use Rattle.paper.proofs.Promised.{worked_lines_lem, by_steps}
+use Rattle.rooms.proofs.Kept.{nothing_kept}
+use Rattle.blocks.specs.declared.Progress.{Progress}
+use Rattle.blocks.specs.Blocks.{taken_from, lines_in}
+use Rattle.caller.specs.Worked.{worked_lines}
+use Rattle.caller.proofs.worked_run.Goals as goal
+
+-- As in the paper's own proof, what is computed is held to the lines as they are printed.
+in_one_block : lines_in true 1 fresh input_bytes (taken_from 1 input_bytes) ≡ worked_lines_lem
+in_one_block = refl
+
+lines : lines_in true 1 fresh input_bytes (taken_from 1 input_bytes) ≡ worked_lines
+lines = in_one_block ∙ sym by_steps
+
+pub returns : goal.returns
+returns c =
+    let ran = c.run_block-done.ensures.ran fresh nothing_kept in
+    let kept = ran.2 in
+    let held = kept.held in (
+      ran.1 ∙ ap (λ (ls : List Line). sets c.args.out.now 0 (text ls)) lines,
+      ap (λ (p : Progress). p.written) ran.0 ∙ ap (λ (ls : List Line). length (text ls)) lines,
+      c.weighed-weight.ensures _ kept.reached kept.counts held.wishes.clauses held.counters held.weights refl,
+    )
