@@ -16,7 +16,7 @@
  * it; reading is free. Sessions share nothing, so each thread may have its
  * own. Nothing checks this file against the proved source: the order of the
  * fields and parameters and the sizes below are those of
- * crates/tally/src/lib.rt. */
+ * crates/tally_c/src/lib.rt. */
 #ifndef TALLY_H
 #define TALLY_H
 
