@@ -22,7 +22,7 @@ worked: independent
 independent:
 	@$(MAKE) --silent --no-print-directory -C independent
 
-# The independent program first, since it takes seconds; then everything is proved from nothing.
+# The independent program first, since it takes seconds; then everything is proved.
 test: independent
 	@$(MAKE) --silent --no-print-directory -C independent test
 	@sh tools/stored.sh check $(tally)

@@ -1,8 +1,9 @@
 #!/bin/sh
 # The static library for C: it is proved and built, the examples are compiled
 # by the kit's clang against include/tally.h and linked with it as the kit links
-# its programs, and what they print is compared. `tally_c` has the exports; its
-# archive is handed on as libtally.a, the name that C programs link. The header is read as C++ too.
+# its programs, and what they print is compared. The header is read as C++ too.
+# `tally_c` has the exports; its archive is handed on as libtally.a, the name
+# that C programs link.
 #   library.sh      (from the repository's root)
 set -eu
 . "$(dirname "$0")/kit.sh"

@@ -1,5 +1,5 @@
-// Where a run over standard input stands between two turns: the tally, the place of the next record, and which bytes of the buffer no
-// record has taken yet. What is left of a block goes before what is read next, so that no byte is taken twice and none is lost.
+// Where a run over an input stands between two turns: the tally, the place of the next record, and which bytes of the buffer no record
+// has taken yet. What is left of a block goes before what is read next, so that no byte is taken twice and none is lost.
 #![tactic(auto)]
 
 ghost use Rattle.std.specs.Prelude.{◌≡◌, length};

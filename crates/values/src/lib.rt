@@ -1,4 +1,4 @@
-// The values of variables in two lent rooms. Only `at` and `put` see two rooms; all else speaks of one list, `now low ++ now high`.
+// The values of variables in two lent rooms. Only `at` and `put` see two rooms; all else speaks of one list, `low.now ++ high.now`.
 #![tactic(auto)]
 
 ghost use Rattle.std.specs.Prelude.{◌≡◌, ◌++◌, get_or, set};

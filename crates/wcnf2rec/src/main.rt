@@ -1,6 +1,6 @@
 // The older WCNF text on standard input as records on standard output. A text that is refused gives no records, but a line on
-// standard error: the number, the place, and what is wrong there. A program ends with status 0 here whatever it found, as the
-// language has no other: a caller looks whether there are records.
+// standard error: the number, the place, and what is wrong there. It ends with status 0 whatever it found in the text, so a caller
+// looks whether there are records; only where standard error cannot be written does it end with status 1.
 #![tactic(auto)]
 
 use paper::TextAnswer;
