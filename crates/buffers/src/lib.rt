@@ -1,8 +1,10 @@
 // A lent buffer that an input comes in: a part of its bytes, and its filling again, where what is left of it goes before what is
-// read next. No contract can say what is read; what is said is where it goes, and that what was left is kept.
+// read next. What is said is where the bytes go, that they are those that the source gave up, in its order, and that what was left is
+// kept. Of a source whose bytes are not known, as standard input, the middle part says nothing.
 #![tactic(auto)]
 
-ghost use Rattle.std.specs.Prelude.{◌≡◌, ◌+◌, ◌-◌, ◌^◌, ◌≤◌, ◌<◌, length, take};
+ghost use Rattle.std.specs.Prelude.{◌≡◌, ℕ, List, ◌+◌, ◌-◌, ◌^◌, ◌≤◌, ◌<◌, length, take, drop};
+ghost use Rattle.std.specs.Io.KnownBytes.{Consumes};
 ghost use Rattle.buffers.specs.Parts.{part_of};
 
 use std::io::Read;
@@ -49,7 +51,8 @@ fn least(a: u64, b: u64) -> u64
 
 // How many bytes came: none where the read failed.
 fn read_some<R: Read>(source: &mut R, bytes: &mut [u8]) -> usize
-    ensures { result ≤ length bytes.old }
+    ensures within { result ≤ length bytes.old }
+    ensures came { Consumes (R.remaining source.old) (R.remaining source.new) (take result bytes.new) }
 {
     match source.read(bytes) {
         Ok(got) => got,
@@ -63,6 +66,8 @@ fn read_from<R: Read>(source: &mut R, buffer: &mut [u8], from: usize, most: u64)
     ensures within { (result ≤ most) × (from + result < 2 ^ 64) }
     ensures kept { from ≤ length buffer.old
         → (take from buffer.new ≡ take from buffer.old) × (from + result ≤ length buffer.old) }
+    ensures came { Consumes (R.remaining source.old) (R.remaining source.new)
+        (take result (drop from buffer.new)) }
 {
     if buffer.len() < from {
         return 0;
@@ -74,11 +79,12 @@ fn read_from<R: Read>(source: &mut R, buffer: &mut [u8], from: usize, most: u64)
 
 // Reads until the buffer is full, and answers how many bytes came: fewer where the input ended before, or a read failed.
 pub fn read_full<R: Read>(source: &mut R, buffer: &mut [u8]) -> usize
-    ensures { result ≤ length buffer.old }
+    ensures within { result ≤ length buffer.old }
+    ensures came { Consumes (R.remaining source.old) (R.remaining source.new) (take result buffer.new) }
 {
     let mut at: usize = 0;
     while at < buffer.len() {
-        let got = read_some(source, &mut buffer[at..]);
+        let got = read_from(source, buffer, at, u64::MAX);
         if got == 0 {
             return at;
         }
@@ -108,6 +114,8 @@ pub fn refill<R: Read>(
     ensures kept { start ≤ end → end ≤ length bytes.old
         → (result.end ≡ (end - start) + result.got) × (result.end ≤ length bytes.old)
         × (take (end - start) bytes.new ≡ part_of bytes.old start end) }
+    ensures came { Consumes (R.remaining source.old) (R.remaining source.new)
+        (take result.got (drop (result.end - result.got) bytes.new)) }
 {
     let rest = move_to_front(bytes, start, end);
     let got = read_from(source, bytes, rest, most);
@@ -119,7 +127,10 @@ pub fn refill<R: Read>(
 
 // Reads so many bytes of an input and drops them; the answer is how many of them did not come.
 pub fn skip<R: Read>(source: &mut R, count: u64) -> u64
-    ensures { result ≤ count }
+    ensures within { result ≤ count }
+    ensures came { (dropped : List ℕ)
+        × Consumes (R.remaining source.old) (R.remaining source.new) dropped
+        × (length dropped + result ≡ count) }
 {
     let mut space = [0u8; 65536];
     let mut left = count;

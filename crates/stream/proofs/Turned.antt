@@ -1,11 +1,12 @@
 -- A turn by what a block says: the place, the session and the bytes behind the records that it has whole.
 use mathlib.Core.Path.{◌≡◌, refl, sym, ap, ◌∙◌, subst}
 use mathlib.Core.Bool.{Bool}
-use mathlib.Core.List.{List}
+use mathlib.Core.List.{List, [], ◌++◌}
 use Prim.Native.Nat.{ℕ, zero, suc, ◌+◌, ◌≤◌}
 use native.Mathlib.Omega.{arith}
 use lib.ListN.{length, drop, length-drop}
 use lib.Seq.{take-length}
+use Rattle.std.proofs.Common.{append-nil}
 use Rattle.paper.specs.declared.Front.{Front}
 use Rattle.paper.specs.declared.Front.TheVariants.{Short, Wrong, Whole}
 use Rattle.paper.specs.declared.Tally.{Tally}
@@ -34,6 +35,13 @@ records_fit (suc most) bytes = go (front bytes) refl (records_fit most)
         let w = stands bytes n f in
         rw f (omega (arith, payload_long bytes n w, w.least, w.long, more (drop (4 + n) bytes), length-drop (4 + n) bytes))
 
+-- Bytes begin with themselves.
+pub begins_same : (bytes first : List ℕ) → bytes ≡ first → Begins bytes first
+begins_same bytes first e = subst (λ (x : List ℕ). Begins x first) (sym e) (take-length first)
+
+pub begins_with : (bytes first first' : List ℕ) → first ≡ first' → Begins bytes first → Begins bytes first'
+begins_with bytes first first' e k = subst (Begins bytes) e k
+
 module _ (state : State) (input block : List ℕ) (e : block ≡ waiting state input) (s : Session) (done : Progress)
     (d : done ≡ progress_of state.last state.place s block (taken_from state.place block)) where
   pub turned : {rooms : Rooms} {values : List ℕ} → Kept done.tally rooms values (after s (taken_from state.place block))
@@ -44,6 +52,12 @@ module _ (state : State) (input block : List ℕ) (e : block ≡ waiting state i
     subst (λ (b : List ℕ). Kept t rooms values (after s (taken_from state.place b))) e
         (subst (λ (x : Tally). Kept x rooms values (after s (taken_from state.place block))) (sym counts) k),
   )
+
+  -- The same of what a block leads to.
+  pub turned_on : {rooms : Rooms} {values : List ℕ} → Kept done.tally rooms values (after s (taken_from state.place block))
+      → (next : State) (written : Bool) → next ≡ onward state done written
+      → (next.place ≡ state.place + length (taken state input)) × Kept next.tally rooms values (after s (taken state input))
+  turned_on k next written f = turned k next.tally next.place (ap (λ (x : State). x.tally) f) (ap (λ (x : State). x.place) f)
 
   took : done.consumed ≡ bytes_of (taken state input)
   took = ap (λ (p : Progress). p.consumed) d ∙ ap (λ (b : List ℕ). bytes_of (taken_from state.place b)) e
@@ -61,9 +75,14 @@ module _ (state : State) (input block : List ℕ) (e : block ≡ waiting state i
         ∙ ap (λ (n : ℕ). drop n (waiting state input)) took,
   )
 
--- Bytes begin with themselves.
-pub begins_same : (bytes first : List ℕ) → bytes ≡ first → Begins bytes first
-begins_same bytes first e = subst (λ (x : List ℕ). Begins x first) (sym e) (take-length first)
+  pub left_begins : Within state (length input) → (next : State) (written : Bool) → next ≡ onward state done written
+      → Within next (length input) × Begins (waiting next input) (unanswered state input)
+  left_begins w next written f = let left = left_waiting w next written f in (left.0, begins_same _ _ left.1)
 
-pub begins_with : (bytes first first' : List ℕ) → first ≡ first' → Begins bytes first → Begins bytes first'
-begins_with bytes first first' e k = subst (Begins bytes) e k
+  -- Nothing was read, and nothing stands behind what was left.
+  pub left_alone : Within state (length input) → (next : State) (written : Bool) → next ≡ onward state done written
+      → (next.unread ≡ state.unread) × (waiting next input ≡ unanswered state input ++ [])
+  left_alone w next written f = (
+    ap (λ (x : State). x.unread) f,
+    (left_waiting w next written f).1 ∙ sym (append-nil (unanswered state input)),
+  )

@@ -1,10 +1,12 @@
 // A run of the tally over an input, with its answer lines on an output. Input comes in blocks of 64 KiB and lines go
-// out together, some 250 at a time: a system call a record would cost more than the record. No contract can say what is read or
-// written. What is said of a turn is that it leads from the session before it to the session after the records that its block has
-// whole, and that what these leave of the block is where the next turn begins: no byte is taken twice, and none is lost.
+// out together, some 250 at a time: a system call a record would cost more than the record. What is written no contract
+// says. What is said of a turn is that it leads from the session before it to the session after the records that its block has whole,
+// and that what these leave of the block, and behind it the next bytes of the source, is where the next turn begins: no byte is taken
+// twice, and none is lost. Which bytes a source gives is known of one in memory and not of standard input.
 #![tactic(auto)]
 
-ghost use Rattle.std.specs.Prelude.{◌≡◌, ◌++◌, ◌+◌, ◌≤◌, length};
+ghost use Rattle.std.specs.Prelude.{◌≡◌, ℕ, List, ◌++◌, ◌+◌, ◌≤◌, length};
+ghost use Rattle.std.specs.Io.KnownBytes.{Consumes};
 ghost use Rattle.paper.specs.Session.{Session};
 ghost use Rattle.paper.specs.Inputs.{after as afterRecords};
 ghost use Rattle.rooms.specs.Kept.{Kept};
@@ -65,6 +67,10 @@ fn turn<R: Read, W: Print>(
     ensures less { result.unread ≤ state.unread }
     ensures waits { Within result (length input.new)
         × Begins (waiting result input.new) (unanswered state input.old) }
+    ensures came { (read : List ℕ)
+        × Consumes (R.remaining source.old) (R.remaining source.new) read
+        × (length read + result.unread ≡ state.unread)
+        × (waiting result input.new ≡ unanswered state input.old ++ read) }
     ensures turned { (s : Session)
         → Kept state.tally
         (record {
@@ -132,7 +138,10 @@ fn turn<R: Read, W: Print>(
 // One run from a fresh session, over at most so many bytes of an input. A proved loop has to end, and nothing says that an
 // input does: so the turns are counted down, from a number that no run uses up.
 pub fn run<R: Read, W: Print>(source: &mut R, sink: &W, limit: u64) -> Finish
-    ensures { result.unread ≤ limit }
+    ensures within { result.unread ≤ limit }
+    ensures came { (read : List ℕ)
+        × Consumes (R.remaining source.old) (R.remaining source.new) read
+        × (length read + result.unread ≡ limit) }
 {
     let mut rules = [0i32; 16384];
     let mut rule_ends = [0u32; 2048];

@@ -1,16 +1,16 @@
 -- The bytes that no record has taken yet: what records take of them goes from their front, and what is read goes behind them.
 use mathlib.Core.Path.{◌≡◌, sym, ap, ◌∙◌}
 use mathlib.Core.Bool.{Bool}
-use mathlib.Core.List.{List}
+use mathlib.Core.List.{List, ◌++◌}
 use Prim.Native.Nat.{ℕ, ◌+◌, ◌-◌, ◌≤◌}
 use native.Mathlib.Omega.{arith}
 use lib.ListN.{length, take, drop, length-drop}
-use lib.Seq.{length-take-le, drop-drop, take-add, take-take, drop_at}
+use lib.Seq.{length-take-le, drop-drop, take-add, drop_at}
 use borrow.Author.Tests.{le-ltb}
 use Rattle.buffers.specs.Parts.{part_of}
 use Rattle.buffers.proofs.Moves.{part_is}
 use Rattle.blocks.specs.declared.Progress.{Progress}
-use Rattle.turns.specs.Turns.{waiting, Within, Begins, onward}
+use Rattle.turns.specs.Turns.{waiting, Within, onward}
 use Rattle.turns.specs.declared.State.{State}
 
 module _ (state : State) (input : List ℕ) (w : Within state (length input)) where
@@ -48,19 +48,10 @@ module _ (state : State) (input : List ℕ) (w : Within state (length input)) wh
         ∙ sym (drop_at (take n rest) (take m (drop n rest)) n long)
         ∙ ap (drop n) (sym (take-add n m rest) ∙ ap (λ (k : ℕ). take k rest) all ∙ sym waiting_is)
 
--- What is read goes behind them.
-pub refill_waits : (state r : State) (input input' : List ℕ) → Within state (length input) → length input' ≡ length input
-    → r.start ≡ 0 → state.end - state.start ≤ r.end → r.end ≤ length input
-    → take (state.end - state.start) input' ≡ part_of input state.start state.end
-    → Within r (length input') × Begins (waiting r input') (waiting state input)
-refill_waits state r input input' w same front more fits kept =
-    let inside : Within r (length input') = record { up = omega (arith, front); fits = omega (arith, fits, same) } in
-    let none : r.end - 0 ≡ r.end = omega arith in
-    let whole : waiting r input' ≡ take r.end input' =
-    waiting_is r input' inside ∙ ap (λ (k : ℕ). take (r.end - k) (drop k input')) front ∙ ap (λ (k : ℕ). take k input') none in (
-      inside,
-      ap (λ (k : ℕ). take k (waiting r input')) (waiting_long state input w)
-          ∙ ap (take (state.end - state.start)) whole
-          ∙ take-take (state.end - state.start) r.end input' more
-          ∙ kept,
-    )
+-- Where what was left stands at the front, what was read stands behind it.
+pub refilled : (before after : List ℕ) (start end filled got : ℕ) → filled ≡ (end - start) + got → filled ≤ length after
+    → take (end - start) after ≡ part_of before start end
+    → part_of after 0 filled ≡ part_of before start end ++ take got (drop (end - start) after)
+refilled before after start end filled got sum fits kept =
+    let all : filled - 0 ≡ (end - start) + got = omega arith in
+    part_is after 0 filled (omega arith) fits ∙ rw (all, take-add, kept)

@@ -2,7 +2,8 @@
 // has taken yet. What is left of a block goes before what is read next, so that no byte is taken twice and none is lost.
 #![tactic(auto)]
 
-ghost use Rattle.std.specs.Prelude.{◌≡◌, ◌+◌, ◌-◌, length};
+ghost use Rattle.std.specs.Prelude.{◌≡◌, ℕ, List, ◌++◌, ◌+◌, length};
+ghost use Rattle.std.specs.Io.KnownBytes.{Consumes};
 ghost use Rattle.turns.specs.Turns.{fresh, waiting, Within, Begins, ahead, ends, onward, Refilled};
 
 use blocks::Progress;
@@ -100,8 +101,11 @@ pub fn refill<R: Read>(source: &mut R, state: State, input: &mut [u8]) -> State
     ensures stands { Refilled state result }
     ensures kept { Within state (length input.old)
         → Within result (length input.new) × Begins (waiting result input.new) (waiting state input.old) }
-    ensures grown { Within state (length input.old)
-        → result.end ≡ (state.end - state.start) + (state.unread - result.unread) }
+    ensures came { Within state (length input.old)
+        → (read : List ℕ)
+        × Consumes (R.remaining source.old) (R.remaining source.new) read
+        × (length read + result.unread ≡ state.unread)
+        × (waiting result input.new ≡ waiting state input.old ++ read) }
 {
     let filled = buffers::refill(source, input, state.start, state.end, state.unread);
     let tally = state.tally;

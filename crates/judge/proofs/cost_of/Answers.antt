@@ -1,3 +1,4 @@
+-- Each turn reads one wish of those that are still to come.
 use Rattle.std.proofs.Common.{◌∙◌, ap, arith}
 use Rattle.paper.specs.Clauses.{clause_true}
 use Rattle.paper.specs.Truth.{arranged}

@@ -1,3 +1,4 @@
+-- Each turn reads one rule of those that are still to come; the first that is broken is the answer.
 use Rattle.std.proofs.Common.{◌≡◌, ◌∙◌, ap, arith, length}
 use lib.Seq.{drop-length}
 use Rattle.paper.specs.Clauses.{clause_true}

@@ -1,3 +1,4 @@
+-- Each turn writes the next hint, whose missing bytes are zeros.
 use Rattle.std.proofs.Common.{ℕ, List, arith, refl, take}
 use Rattle.paper.specs.Records.{number, numbers_in}
 use Rattle.payload.proofs.Filling.{filled_more}

@@ -1,3 +1,4 @@
+-- Each turn writes the next literal, whose missing bytes are zeros.
 use Rattle.std.proofs.Common.{◌∙◌, ℕ, ℤ, List, ap, arith, refl, rules, take}
 use Rattle.paper.specs.Records.{number, signed, literals}
 use Rattle.payload.proofs.Filling.{filled_more}

@@ -1,5 +1,7 @@
--- It reads no more than its limit and keeps a session from turn to turn; the turns that are left are counted down.
-use Rattle.std.proofs.Common.{◌++◌, ◌≤◌, length}
+-- What was read and what may still be read are as many bytes as the limit, and a session is kept from turn to turn; the turns that
+-- are left are counted down.
+use Rattle.std.proofs.Common.{◌≡◌, ℕ, List, ◌++◌, ◌+◌, length}
+use Rattle.std.specs.Io.KnownBytes.{Consumes}
 use Rattle.turns.specs.Turns.{Within}
 use Rattle.stream.specs.Taken.{Standing}
 use Rattle.stream.proofs.run.Given as goal
@@ -7,7 +9,9 @@ use Rattle.stream.proofs.run.Given as goal
 abbrev pub invariant-loop-turns : goal.invariant-loop-turns
 invariant-loop-turns g l =
     record {
-      limited : l.state.unread ≤ l.limit;
+      came : (read : List ℕ)
+          × Consumes (g.R.Read.remaining l.initial.source) (g.R.Read.remaining l.source) read
+          × (length read + l.state.unread ≡ l.limit);
       within : Within l.state (length l.input);
       standing : Standing l.state.tally
           (record {

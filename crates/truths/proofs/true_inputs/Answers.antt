@@ -1,3 +1,4 @@
+-- Each turn counts one word of the truths that are still to come.
 use Rattle.std.proofs.Common.{ap, arith, drop_of_length-le}
 use Rattle.truths.specs.Truths.{true_bytes}
 use Rattle.truths.proofs.Ones.{at_most, block}

@@ -1,3 +1,4 @@
+-- Each turn puts one truth of those that are still to come into the word.
 use Rattle.std.proofs.Common.{ap, arith, drop_of_length-le, get_or}
 use Rattle.truths.specs.Truths.{true_bytes}
 use Rattle.truths.proofs.Ones.{wider, one_more, next}

@@ -1,3 +1,4 @@
+-- Each turn reads one literal of those that are still to come.
 use Rattle.std.proofs.Common.{arith}
 use Rattle.std.proofs.lemmas.Grind.{common_steps}
 use Rattle.variables.proofs.Every.{every_from}

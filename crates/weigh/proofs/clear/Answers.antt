@@ -1,3 +1,4 @@
+-- Each turn clears one place; past the last there are zeros already.
 use Rattle.std.proofs.Common.{◌≡◌, arith}
 use Rattle.weigh.proofs.Marks.{cleared_more, cleared_all}
 use Rattle.weigh.proofs.clear.Goals as goal

@@ -1,3 +1,4 @@
+-- Each turn adds the weight at one place of the outputs.
 use Rattle.std.proofs.Common.{◌≡◌, ◌∙◌, arith, get_or, refl}
 use Rattle.weigh.specs.Weighing.{output_sum}
 use Rattle.weigh.proofs.Sums.{output_more, outputs_stand}

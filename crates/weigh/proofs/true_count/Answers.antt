@@ -1,3 +1,4 @@
+-- A counter has few inputs, so the number of the true ones fits a byte.
 use Rattle.std.proofs.Common.{◌∙◌, ap, arith}
 use Rattle.truths.specs.Truths.{true_bytes}
 use Rattle.weigh.specs.Marks.{input_truth}

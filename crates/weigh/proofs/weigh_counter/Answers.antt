@@ -1,3 +1,4 @@
+-- One counter: its true inputs are counted, and what its true outputs weigh is answered.
 use Rattle.weigh.proofs.Counters.{counted, counter_marked, outputs_weigh}
 use Rattle.weigh.proofs.weigh_counter.Goals as goal
 

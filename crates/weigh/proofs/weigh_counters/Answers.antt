@@ -1,3 +1,4 @@
+-- Each turn weighs one counter, by the counts of those before it.
 use Rattle.std.proofs.Common.{◌≡◌, arith, refl}
 use Rattle.weigh.specs.Weighing.{counter_sum}
 use Rattle.weigh.proofs.Sums.{counter_more}

@@ -1,3 +1,4 @@
+-- Each turn marks one wish and adds its weight where it is broken.
 use Rattle.std.proofs.Common.{◌≡◌, arith, refl}
 use Rattle.weigh.specs.Weighing.{wish_sum}
 use Rattle.weigh.proofs.Sums.{wish_more}
