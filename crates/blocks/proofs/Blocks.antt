@@ -28,26 +28,10 @@ use Rattle.blocks.specs.Blocks.{Ran, CarriedOn, Moved, left_in, lines_in, progre
 
 -- ── The records that are taken ──
 
-abbrev length_of : List ℕ → ℕ
-length_of bytes = onFront (front bytes) 0 0 (λ n. n)
-
-pub whole_at : (bytes : List ℕ) (n : ℕ) → n ≡ length_of bytes → (n ≡ 0 → ⊥) → front bytes ≡ Whole n
-whole_at bytes n e h = go (front bytes) refl
-  where
-    go : (x : Front) → front bytes ≡ x → front bytes ≡ Whole n
-    go Short f = absurd (h (e ∙ ap (λ (y : Front). onFront y 0 0 (λ k. k)) f))
-    go Wrong f = absurd (h (e ∙ ap (λ (y : Front). onFront y 0 0 (λ k. k)) f))
-    go (Whole k) f = f ∙ ap Whole (sym (e ∙ ap (λ (y : Front). onFront y 0 0 (λ k. k)) f))
-
-pub none_whole : (bytes : List ℕ) (n : ℕ) → n ≡ length_of bytes → n ≡ 0 → (most : ℕ) → records_in most bytes ≡ []
-none_whole bytes n e z most = go (front bytes) refl
-  where
-    go : (x : Front) → front bytes ≡ x → records_in most bytes ≡ []
-    go Short f = none_at most bytes Short f refl
-    go Wrong f = none_at most bytes Wrong f refl
-    go (Whole k) f =
-        let none : k ≡ 0 = sym (ap (λ (y : Front). onFront y 0 0 (λ k. k)) f) ∙ sym e ∙ z in
-        absurd (omega (arith, none, (stands bytes k f).least))
+pub none_whole : (bytes : List ℕ) (x : Front) → x ≡ front bytes → ((n : ℕ) → x ≡ Whole n → ⊥) → (most : ℕ) → records_in most bytes ≡ []
+none_whole bytes Short e h most = none_at most bytes Short (sym e) refl
+none_whole bytes Wrong e h most = none_at most bytes Wrong (sym e) refl
+none_whole bytes (Whole n) e h most = absurd (h n refl)
 
 pub none_asked : (bytes : List ℕ) (most : ℕ) → most ≡ 0 → records_in most bytes ≡ []
 none_asked bytes most e = ap (λ k. records_in k bytes) e
@@ -62,12 +46,13 @@ first_taken bytes (suc most) n h f =
 
 module _ (block : List ℕ) (at n : ℕ) (f : front (drop at block) ≡ Whole n) where
   -- What stands behind the record begins `next`.
-  pub taken : (most next : ℕ) → (most ≡ 0 → ⊥) → next ≡ at + 4 + n
-      → records_in most (drop at block) ≡ record_in n (drop at block) ∷ records_in (most - 1) (drop next block)
-  taken most next more e =
+  pub taken : (most fewer next : ℕ) → (most ≡ 0 → ⊥) → fewer ≡ most - 1 → next ≡ at + 4 + n
+      → records_in most (drop at block) ≡ record_in n (drop at block) ∷ records_in fewer (drop next block)
+  taken most fewer next more less e =
       let place : at + (4 + n) ≡ next = omega (arith, e) in
-      first_taken (drop at block) most n more f
-      ∙ ap (λ (left : List ℕ). record_in n (drop at block) ∷ records_in (most - 1) left) (drop-drop (4 + n) at block ∙ ap (λ k. drop k block) place)
+      rw less
+      (first_taken (drop at block) most n more f
+      ∙ ap (λ (left : List ℕ). record_in n (drop at block) ∷ records_in (most - 1) left) (drop-drop (4 + n) at block ∙ ap (λ k. drop k block) place))
 
   behind : at + 4 + n ≡ at + bytes_of (record_in n (drop at block) ∷ [])
   behind =
@@ -162,18 +147,18 @@ going_from t place most block out =
 
 module _ {t : Tally} {rooms₀ rooms : Rooms} {values₀ values : List ℕ} {place most : ℕ} {block out₀ out : List ℕ} {p : Progress} {more : ℕ}
     (g : Going t rooms₀ values₀ place most block out₀ rooms values out p more) where
-  pub going_on : {rooms₁ : Rooms} {values₁ out₁ : List ℕ} (q : Progress) (n : ℕ) → front (drop p.consumed block) ≡ Whole n → (more ≡ 0 → ⊥)
+  pub going_on : {rooms₁ : Rooms} {values₁ out₁ : List ℕ} (q : Progress) (n fewer : ℕ) → front (drop p.consumed block) ≡ Whole n → (more ≡ 0 → ⊥) → fewer ≡ more - 1
       → Moved p q n (length out) (length out₁)
       → CarriedOn p.tally rooms values p.place p.consumed p.written out (record_in n (drop p.consumed block) ∷ []) q out₁ rooms₁ values₁
-      → Going t rooms₀ values₀ place most block out₀ rooms₁ values₁ out₁ q (more - 1)
-  going_on {rooms₁} {values₁} {out₁} q n f some m one =
+      → Going t rooms₀ values₀ place most block out₀ rooms₁ values₁ out₁ q fewer
+  going_on {rooms₁} {values₁} {out₁} q n fewer f some less m one =
       record {
-        places = omega (arith, g.places, some, m.stands);
-        short = omega (arith, g.short, some, m.short);
+        places = omega (arith, g.places, some, less, m.stands);
+        short = omega (arith, g.short, some, less, m.short);
         same = m.same ∙ g.same;
         goes_on = m.goes_on;
         rest = λ r out' rooms' values' k. g.rest r out' rooms' values'
-            (carried_more _ _ _ (taken block p.consumed n f more q.consumed some m.reads) p.place p.consumed p.written out out₁ out' q r one k);
+            (carried_more _ _ _ (taken block p.consumed n f more fewer q.consumed some less m.reads) p.place p.consumed p.written out out₁ out' q r one k);
       }
 
   pub going_ends : records_in more (drop p.consumed block) ≡ []

@@ -1,2 +1,2 @@
--- How bytes are moved within a buffer.
+-- What the crates above cite of a part.
 pub mod Moves

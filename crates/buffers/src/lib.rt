@@ -13,40 +13,18 @@ use std::io::Read;
 pub fn part(bytes: &[u8], start: usize, end: usize) -> &[u8]
     ensures { result.now ≡ part_of bytes.now start end }
 {
-    if start <= end {
-        if end <= bytes.len() {
-            return &bytes[start..end];
-        }
-    }
-    &bytes[..0]
+    bytes.get(start..end).unwrap_or(&[])
 }
 
-// The bytes of a part go to the front; the answer is how many they are. They are few, less than a record, so that a test for each
-// costs nothing.
+// The bytes of a part go to the front; the answer is how many they are.
 fn move_to_front(bytes: &mut [u8], start: usize, end: usize) -> usize
     ensures { start ≤ end → end ≤ length bytes.old
         → (result ≡ end - start) × (take result bytes.new ≡ part_of bytes.old start end) }
 {
-    let mut from = start;
-    let mut to: usize = 0;
-    while from < end {
-        if bytes.len() <= from {
-            return to;
-        }
-        bytes[to] = bytes[from];
-        from += 1;
-        to += 1;
-    }
-    to
-}
-
-fn least(a: u64, b: u64) -> u64
-    ensures { (result ≤ a) × (result ≤ b) }
-{
-    if a < b {
-        return a;
-    }
-    b
+    let end = end.min(bytes.len());
+    let start = start.min(end);
+    bytes.copy_within(start..end, 0);
+    end - start
 }
 
 // How many bytes came: none where the read failed.
@@ -54,10 +32,7 @@ fn read_some<R: Read>(source: &mut R, bytes: &mut [u8]) -> usize
     ensures within { result ≤ length bytes.old }
     ensures came { Consumes (R.remaining source.old) (R.remaining source.new) (take result bytes.new) }
 {
-    match source.read(bytes) {
-        Ok(got) => got,
-        Err(_) => 0,
-    }
+    source.read(bytes).unwrap_or(0)
 }
 
 // Reads once, behind so many bytes of the buffer, and answers how many came: none where the input has ended, where the read
@@ -72,7 +47,7 @@ fn read_from<R: Read>(source: &mut R, buffer: &mut [u8], from: usize, most: u64)
     if buffer.len() < from {
         return 0;
     }
-    let room = least((buffer.len() - from) as u64, most) as usize;
+    let room = most.min((buffer.len() - from) as u64) as usize;
     let end = from + room;
     read_some(source, &mut buffer[from..end])
 }
@@ -83,6 +58,7 @@ pub fn read_full<R: Read>(source: &mut R, buffer: &mut [u8]) -> usize
     ensures came { Consumes (R.remaining source.old) (R.remaining source.new) (take result buffer.new) }
 {
     let mut at: usize = 0;
+    // No `for`: how far a turn goes, the read tells.
     while at < buffer.len() {
         let got = read_from(source, buffer, at, u64::MAX);
         if got == 0 {
@@ -134,6 +110,7 @@ pub fn skip<R: Read>(source: &mut R, count: u64) -> u64
 {
     let mut space = [0u8; 65536];
     let mut left = count;
+    // No `for`: how far a turn goes, the read tells.
     while 0 < left {
         let got = read_from(source, &mut space, 0, left) as u64;
         if got == 0 {

@@ -12,36 +12,35 @@ ghost use Rattle.paper.specs.Inputs.{text};
 ghost use Rattle.rooms.specs.Held.{HeldIn, HeldCounters, HeldWeights, wish_family};
 ghost use Rattle.caller.specs.Worked.{worked_lines};
 
+use clauses::FamilyRooms;
 use paper::Tally;
+use rooms::Rooms;
 
-// A weighing over rooms that are known by their sizes, with work rooms of its own.
-fn weighed(
-    tally: Tally,
-    wishes: &[i32; 8192],
-    wish_ends: &[u32; 512],
-    inputs: &[i32; 8192],
-    counter_ends: &[u32; 128],
-    left: &[u32; 512],
-    outputs: &[u32; 8192],
-    arrangement: &[u8],
-) -> u64
+// A weighing over a session's rooms, with work rooms of its own.
+fn weighed(tally: Tally, rooms: &Rooms, arrangement: &[u8]) -> u64
     ensures { (s : Session) → Reached s → tally ≡ tally_of s
-        → HeldIn wish_room wishes.now wish_ends.now (wish_family s.sheet.wishes)
-        → HeldCounters inputs.now counter_ends.now s
-        → HeldWeights left.now outputs.now s
+        → HeldIn wish_room rooms.now.wishes rooms.now.wish_ends (wish_family s.sheet.wishes)
+        → HeldCounters rooms.now.inputs rooms.now.counter_ends s
+        → HeldWeights rooms.now.left rooms.now.outputs s
         → meets s.sheet (arranged arrangement.now) ≡ true
         → result ≡ cost s.sheet (arranged arrangement.now) }
 {
     let mut broken = [0u8; 512];
     let mut counts = [0u8; 128];
+    let wishes = FamilyRooms {
+        literals: &rooms.wishes,
+        ends: &rooms.wish_ends,
+    };
+    let counters = FamilyRooms {
+        literals: &rooms.inputs,
+        ends: &rooms.counter_ends,
+    };
     weigh::weigh(
         tally,
         wishes,
-        wish_ends,
-        inputs,
-        counter_ends,
-        left,
-        outputs,
+        counters,
+        &rooms.left,
+        &rooms.outputs,
         arrangement,
         &mut broken,
         &mut counts,
@@ -60,27 +59,7 @@ pub struct Worked {
 pub fn worked_run(out: &mut [u8; 16384]) -> Worked
     ensures { (out.new ≡ sets out.old 0 (text worked_lines)) × (result.written ≡ length (text worked_lines)) × (result.weight ≡ 6) }
 {
-    let mut rules = [0i32; 16384];
-    let mut rule_ends = [0u32; 2048];
-    let mut wishes = [0i32; 8192];
-    let mut wish_ends = [0u32; 512];
-    let mut wish_weights = [0u32; 512];
-    let mut derived = [0i32; 16384];
-    let mut derived_ends = [0u32; 4096];
-    let mut inputs = [0i32; 8192];
-    let mut counter_ends = [0u32; 128];
-    let mut left = [0u32; 512];
-    let mut outputs = [0u32; 8192];
-    let mut low = [0u8; 4001];
-    let mut high = [0u8; 65536];
-    let fresh = Tally {
-        variables: 0,
-        rules: 0,
-        wishes: 0,
-        derived: 0,
-        counters: 0,
-        bound: 0,
-    };
+    let mut rooms = Rooms::fresh();
     let records = b"\x06\0\0\0\x01\0\x03\0\0\0\
         \x0a\0\0\0\x02\0\x01\0\0\0\x02\0\0\0\
         \x0a\0\0\0\x02\0\x02\0\0\0\x03\0\0\0\
@@ -102,39 +81,10 @@ pub fn worked_run(out: &mut [u8; 16384]) -> Worked
         \x03\0\0\0\x06\0\x06\
         \x06\0\0\0\x05\0\0\0\0\0\
         \x03\0\0\0\x06\0\x01";
-    let done = blocks::run_block(
-        fresh,
-        &mut rules,
-        &mut rule_ends,
-        &mut wishes,
-        &mut wish_ends,
-        &mut wish_weights,
-        &mut derived,
-        &mut derived_ends,
-        &mut inputs,
-        &mut counter_ends,
-        &mut left,
-        &mut outputs,
-        &mut low,
-        &mut high,
-        records,
-        true,
-        1,
-        out,
-    );
+    let done = blocks::run_block(Tally::default(), &mut rooms, records, true, 1, out);
     let arrangement = [6u8];
-    let weight = weighed(
-        done.tally,
-        &wishes,
-        &wish_ends,
-        &inputs,
-        &counter_ends,
-        &left,
-        &outputs,
-        &arrangement,
-    );
     Worked {
         written: done.written,
-        weight: weight,
+        weight: weighed(done.tally, &rooms, &arrangement),
     }
 }

@@ -2,3 +2,4 @@
 pub mod Family
 pub mod LookUp
 pub mod Lowest
+pub mod Lent

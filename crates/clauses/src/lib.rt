@@ -3,17 +3,24 @@
 // family that the rooms hold.
 #![tactic(auto)]
 
-ghost use Rattle.std.specs.Prelude.{◌≡◌, List, [], ℕ, ◌+◌, ◌^◌, ◌≤◌, ◌<◌, ℤ, length, get_or};
-ghost use Rattle.std.proofs.Math.Seq.{paste};
+ghost use Rattle.std.specs.Prelude.{◌≡◌, List, [], ℕ, ◌+◌, ◌^◌, ◌<◌, ℤ, length, get_or};
 ghost use Rattle.paper.specs.Clauses.{Clause};
 ghost use Rattle.clauses.specs.Family.{Holds, start_in, part_of, Appended};
 ghost use Rattle.clauses.specs.LookUp.{look_up};
+ghost use Rattle.clauses.specs.Lent.{SameFamily};
 
-// An end as a place: a call, so that the end's bound comes with it.
-fn wide(end: u32) -> usize
-    ensures { (result ≡ end) × (result < 2 ^ 32) }
-{
-    end as usize
+// The two rooms of a family, to read: the literals of one clause after the other, and where each clause ends.
+#[derive(Clone, Copy)]
+pub struct FamilyRooms<'a> {
+    pub literals: &'a [i32],
+    pub ends: &'a [u32],
+}
+
+// The two rooms of a family, to add to.
+#[derive(Drop)]
+pub struct FamilyRoomsMut<'a> {
+    pub literals: &'a mut [i32],
+    pub ends: &'a mut [u32],
 }
 
 // Where a clause begins.
@@ -23,35 +30,31 @@ fn start_of(ends: &[u32], number: usize) -> usize
     if number == 0 {
         return 0;
     }
-    let before = number - 1;
-    if before < ends.len() {
-        return wide(ends[before]);
-    }
-    0
+    let end = ends.get(number - 1).copied().unwrap_or(0);
+    end as usize
 }
 
-fn part<'a>(literals: &'a [i32], start: usize, end: usize) -> &'a [i32]
+// The same for bytes stands in `buffers`, which `clauses` does not know: the one line is std's, and a function keeps its law.
+fn part(literals: &[i32], start: usize, end: usize) -> &[i32]
     ensures { result.now ≡ part_of literals.now start end }
 {
-    if start <= end {
-        if end <= literals.len() {
-            return &literals[start..end];
-        }
-    }
-    &literals[..0]
+    literals.get(start..end).unwrap_or(&[])
 }
 
-// The very stretch of the room that a clause stands in; an empty one for an absent number.
-pub fn clause_of<'a>(literals: &'a [i32], ends: &[u32], count: u32, number: u32) -> &'a [i32]
-    ensures { (size most : ℕ) (family : List Clause)
-        → Holds size most literals.now ends.now count family → result.now ≡ get_or family number [] }
-{
-    if count <= number {
-        return &literals[..0];
+impl<'a> FamilyRooms<'a> {
+    // The very stretch of the room that a clause stands in; an empty one for an absent number.
+    pub fn clause(self, count: u32, number: u32) -> &'a [i32]
+        ensures { (size most : ℕ) (family : List Clause)
+            → Holds size most self.entry.literals.now self.entry.ends.now count family
+            → result.now ≡ get_or family number [] }
+    {
+        if count <= number {
+            return &self.literals[..0];
+        }
+        let start = start_of(self.ends, number as usize);
+        let end = start_of(self.ends, number as usize + 1);
+        part(self.literals, start, end)
     }
-    let start = start_of(ends, number as usize);
-    let end = start_of(ends, number as usize + 1);
-    part(literals, start, end)
 }
 
 // How many literals a clause has. No count is asked: past the last clause the ends are zeros, which make a size of 0.
@@ -61,68 +64,58 @@ pub fn size_of(ends: &[u32], number: u32) -> usize
 {
     let start = start_of(ends, number as usize);
     let end = start_of(ends, number as usize + 1);
-    if start <= end {
-        return end - start;
-    }
-    0
+    end.saturating_sub(start)
 }
 
-fn copy_in(clause: &[i32], literals: &mut [i32], start: usize)
-    requires { start + length clause.now ≤ length literals.old }
-    ensures { literals.new
-        ≡ paste literals.old start clause.now (length clause.now) }
-{
-    let mut i: usize = 0;
-    while i < clause.len() {
-        let literal = clause[i];
-        literals[start + i] = literal;
-        i += 1;
+impl FamilyRoomsMut<'_> {
+    // The rooms as they are now, to read.
+    pub fn view(&self) -> FamilyRooms<'_>
+        ensures { (result.literals.now ≡ self.now.literals.now) × (result.ends.now ≡ self.now.ends.now) }
+    {
+        FamilyRooms {
+            literals: self.literals,
+            ends: self.ends,
+        }
     }
-}
 
-// Puts a clause after the others, where both rooms have space for it.
-pub fn append(literals: &mut [i32], ends: &mut [u32], count: u32, clause: &[i32]) -> bool
-    ensures { Appended literals.old ends.old count clause.now result
-        literals.new ends.new }
-{
-    let number = count as usize;
-    if ends.len() <= number {
-        return false;
+    // Puts a clause after the others, where both rooms have space for it.
+    pub fn append(&mut self, count: u32, clause: &[i32]) -> bool
+        ensures same { SameFamily self.old self.new }
+        ensures appended { Appended self.old.literals.now self.old.ends.now count clause.now result
+            self.new.literals.now self.new.ends.now }
+    {
+        let number = count as usize;
+        if self.ends.len() <= number {
+            return false;
+        }
+        let start = start_of(self.view().ends, number);
+        let end = start + clause.len();
+        if self.literals.len() < end || 4294967295 < end {
+            return false;
+        }
+        self.literals[start..end].copy_from_slice(clause);
+        self.ends[number] = end as u32;
+        true
     }
-    let start = start_of(ends, number);
-    let end = start + clause.len();
-    if literals.len() < end {
-        return false;
-    }
-    if 4294967295 < end {
-        return false;
-    }
-    copy_in(clause, literals, start);
-    ends[number] = end as u32;
-    true
 }
 
 // The stretch of the rule room or of the derived room that a clause stands in, by its family's number in the records.
 pub fn look_up<'a>(
-    rules: &'a [i32],
-    rule_ends: &[u32],
+    rules: FamilyRooms<'a>,
     rule_count: u32,
-    derived: &'a [i32],
-    derived_ends: &[u32],
+    derived: FamilyRooms<'a>,
     derived_count: u32,
     family: u32,
     number: u32,
 ) -> &'a [i32]
     ensures { (size most size' most' : ℕ) (ruleFamily derivedFamily : List Clause)
-        → Holds size most rules.now rule_ends.now rule_count ruleFamily
-        → Holds size' most' derived.now derived_ends.now derived_count derivedFamily
+        → Holds size most rules.entry.literals.now rules.entry.ends.now rule_count ruleFamily
+        → Holds size' most' derived.entry.literals.now derived.entry.ends.now derived_count derivedFamily
         → result.now ≡ look_up ruleFamily derivedFamily family number }
 {
-    if family == 1 {
-        return clause_of(rules, rule_ends, rule_count, number);
+    match family {
+        1 => rules.clause(rule_count, number),
+        4 => derived.clause(derived_count, number),
+        _ => &rules.literals[..0],
     }
-    if family == 4 {
-        return clause_of(derived, derived_ends, derived_count, number);
-    }
-    &rules[..0]
 }

@@ -8,92 +8,82 @@ ghost use Rattle.std.specs.Prelude.{◌≡◌, ◌+◌, ◌^◌, ◌<◌};
 ghost use Rattle.paper.specs.Session.{Session, tally_of};
 ghost use Rattle.paper.specs.Steps.{core as coreStep, next, outcome};
 ghost use Rattle.paper.specs.Runs.{Reached};
+ghost use Rattle.clauses.specs.Lent.{SameFamily};
+ghost use Rattle.weights.specs.Lent.{SameWeights};
 ghost use Rattle.rooms.specs.Held.{HeldDerived, HeldCounters, HeldWeights};
 
-use paper::{Answer, Outcome, Tally};
+use clauses::{FamilyRooms, FamilyRoomsMut};
+use paper::{Answer, Outcome, Reason, Tally};
+use weights::WeightRooms;
 
-// The sum where it fits; a reached session's bound always does.
-fn sum_of(bound: u32, weight: u32) -> u32
-    ensures { bound + weight < 2 ^ 32 → result ≡ bound + weight }
-{
-    if bound <= 4294967295 - weight {
-        return bound + weight;
-    }
-    0
-}
-
-// The tally after a core.
-fn relaxed(tally: Tally, counters: u32, bound: u32, weight: u32) -> Outcome
-    ensures { result ≡ record {
+// The tally after a core. A reached session's bound has room for the weight.
+fn relaxed(tally: Tally, counters: u32, weight: u32) -> Outcome
+    ensures { tally.bound + weight < 2 ^ 32 → result ≡ record {
       tally = record {
         variables = tally.variables;
         rules = tally.rules;
         wishes = tally.wishes;
         derived = tally.derived;
         counters = counters;
-        bound = bound;
+        bound = tally.bound + weight;
       };
-      answer = Answer.Core bound weight;
+      answer = Answer.Core (tally.bound + weight) weight;
     } }
 {
+    let bound = tally.bound.checked_add(weight).unwrap_or(0);
     Outcome {
         tally: Tally {
-            variables: tally.variables,
-            rules: tally.rules,
-            wishes: tally.wishes,
-            derived: tally.derived,
-            counters: counters,
-            bound: bound,
+            counters,
+            bound,
+            ..tally
         },
         answer: Answer::Core(bound, weight),
     }
 }
 
-// `left` and `outputs` are the rooms of remaining weights.
+// `weights` are the rooms of remaining weights.
 pub fn core(
     tally: Tally,
-    derived: &[i32],
-    derived_ends: &[u32],
-    inputs: &mut [i32],
-    counter_ends: &mut [u32],
-    left: &mut [u32],
-    outputs: &mut [u32],
+    derived: FamilyRooms,
+    counters: &mut FamilyRoomsMut,
+    weights: &mut WeightRooms,
     number: u32,
 ) -> Outcome
-    ensures { (s : Session) → Reached s → tally ≡ tally_of s → HeldDerived derived.now derived_ends.now s
-        → HeldCounters inputs.old counter_ends.old s → HeldWeights left.old outputs.old s
+    ensures same { SameFamily counters.old counters.new × SameWeights weights.old weights.new }
+    ensures stepped { (s : Session) → Reached s → tally ≡ tally_of s
+        → HeldDerived derived.entry.literals.now derived.entry.ends.now s
+        → HeldCounters counters.old.literals.now counters.old.ends.now s
+        → HeldWeights weights.old.wishes.now weights.old.outputs.now s
         → (result ≡ outcome s (coreStep number))
-        × HeldCounters inputs.new counter_ends.new (next s (coreStep number))
-        × HeldWeights left.new outputs.new (next s (coreStep number)) }
+        × HeldCounters counters.new.literals.now counters.new.ends.now (next s (coreStep number))
+        × HeldWeights weights.new.wishes.now weights.new.outputs.now (next s (coreStep number)) }
 {
     if tally.variables == 0 {
-        return openings::refused(tally, 12);
+        return openings::refuse(tally, Reason::OutOfTurn);
     }
     if tally.derived <= number {
-        return openings::refused(tally, 21);
+        return openings::refuse(tally, Reason::NoSuchClause);
     }
     let width = openings::width_of(tally);
-    let members = clauses::clause_of(derived, derived_ends, tally.derived, number);
-    let weight = weights::least(width, left, outputs, members);
-    if weight == 0 {
-        return openings::refused(tally, 22);
-    }
-    let bound = sum_of(tally.bound, weight);
+    let members = derived.clause(tally.derived, number);
+    let Some(weight) = weights.least(width, members) else {
+        return openings::refuse(tally, Reason::NoCore);
+    };
     let count = tally.counters;
     if members.len() < 2 {
-        weights::lower(width, left, outputs, members, weight);
-        return relaxed(tally, count, bound, weight);
+        weights.lower(width, members, weight);
+        return relaxed(tally, count, weight);
     }
     if width.counters <= count {
-        return openings::refused(tally, 23);
+        return openings::refuse(tally, Reason::NoRoom);
     }
-    if 65535 < members.len() {
-        return openings::refused(tally, 23);
+    let Ok(inputs) = u32::try_from(members.len()) else {
+        return openings::refuse(tally, Reason::NoRoom);
+    };
+    if !counters.append(count, members) {
+        return openings::refuse(tally, Reason::NoRoom);
     }
-    if !clauses::append(inputs, counter_ends, count, members) {
-        return openings::refused(tally, 23);
-    }
-    weights::lower(width, left, outputs, members, weight);
-    weights::raise(width, outputs, count, members.len() as u32, weight);
-    relaxed(tally, count + 1, bound, weight)
+    weights.lower(width, members, weight);
+    weights.raise(width, count, inputs, weight);
+    relaxed(tally, count + 1, weight)
 }

@@ -14,7 +14,7 @@ fn run_next<R: Read, W: Print>(source: &mut R, sink: &W, number: u64) -> bool {
     if println!(sink; "run {number}").is_err() {
         return false;
     }
-    let finish = stream::run(source, sink, payload::number_of_four(&bytes, 0) as u64);
+    let finish = stream::run(source, sink, u64::from(u32::from_le_bytes(bytes)));
     let missing = buffers::skip(source, finish.unread);
     finish.written && missing == 0
 }
@@ -23,8 +23,9 @@ fn run_next<R: Read, W: Print>(source: &mut R, sink: &W, number: u64) -> bool {
 fn main(rt: HostRuntime) {
     let mut source = rt.stdin();
     let sink = rt.stdout();
-    let mut number: u64 = 1;
-    while number < u64::MAX && run_next(&mut source, &sink, number) {
-        number += 1;
+    for number in 1..u64::MAX {
+        if !run_next(&mut source, &sink, number) {
+            break;
+        }
     }
 }

@@ -43,6 +43,10 @@ in_front_lem l room clause two h = go clause (long room clause h) h.padded
     go (x ∷ (y ∷ [])) e p = record { few = omega arith; whole = rw (e, p); padded = rw p }
     go (x ∷ (y ∷ (z ∷ c))) e p = absurd (omega arith)
 
-pub unless_some : (out : ℕ → ℕ) (k : ℕ) (rest : Clause) → (k ≡ 0 → ⊥) → unless out k rest ≡ negsuc (previous (out (k - 1))) ∷ rest
+pub previous_is : (n : ℕ) → previous n ≡ n - 1
+previous_is zero = refl
+previous_is (suc n) = omega arith
+
+pub unless_some : (out : ℕ → ℕ) (k : ℕ) (rest : Clause) → (k ≡ 0 → ⊥) → unless out k rest ≡ negsuc (out (k - 1) - 1) ∷ rest
 unless_some out zero rest h = absurd (h refl)
-unless_some out (suc k) rest h = let e : suc k - 1 ≡ k = omega arith in rw e
+unless_some out (suc k) rest h = let e : suc k - 1 ≡ k = omega arith in rw (e, previous_is)

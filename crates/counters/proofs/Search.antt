@@ -3,12 +3,13 @@ use mathlib.Core.Path.{◌≡◌, sym, ap, ◌∙◌}
 use mathlib.Core.List.{List, [], ◌∷◌}
 use Prim.Native.Nat.{ℕ, zero, suc, ◌+◌, ◌-◌, ◌/◌, ◌<◌, ◌≤◌}
 use native.Mathlib.Omega.{arith}
-use lib.ListN.{length, take, drop, get_or, length-drop}
+use lib.ListN.{length, take, drop, length-drop}
 use lib.Seq.{length-take-le, take-nil, take-length, take-take, drop-drop}
 use Rattle.paper.specs.Clauses.{Clause}
 use Rattle.paper.specs.Counters.{own_clauses, clause_at, variables_of, clauses_of}
 use Rattle.paper.proofs.Trees.{table_rule}
 use Rattle.counters.specs.Numbered.{counter_of, Found}
+use Rattle.counters.specs.declared.Node.{Node}
 use Rattle.counters.proofs.Halves.{left_clause, right_clause}
 
 -- ── A part of a part ──
@@ -61,45 +62,58 @@ module _ (from size : ℕ) (xs : Clause) (fits : from + size ≤ length xs) (two
 
 -- ── What the search finds ──
 
-module _ (from size start number : ℕ) (two : 1 < size) (past : own_clauses (size / 2) (size - size / 2) ≤ number) (node : List ℕ) where
-  pub found_left : number - own_clauses (size / 2) (size - size / 2) < clauses_of (size / 2)
-      → Found from (size / 2) (start + size) (number - own_clauses (size / 2) (size - size / 2)) node → Found from size start number node
-  found_left h k =
-      let rule = (table_rule size two).0 in
+module _ (whole : Node) (two : 1 < whole.size) where
+  abbrev own : ℕ
+  own = own_clauses (whole.size / 2) (whole.size - whole.size / 2)
+
+  abbrev left : Node
+  left = record { from = whole.from; size = whole.size / 2; start = whole.start + whole.size; number = whole.number - own }
+
+  abbrev right : Node
+  right =
       record {
-        four = k.four;
-        fewer = omega (arith, k.fewer);
-        inside = omega (arith, k.inside);
-        room = omega (arith, rule, k.room);
-        own = k.own;
-        same = λ xs fits. to_left from size xs fits two start number past h ∙ k.same xs (omega (arith, fits));
+        from = whole.from + whole.size / 2;
+        size = whole.size - whole.size / 2;
+        start = whole.start + whole.size + variables_of (whole.size / 2);
+        number = whole.number - own - clauses_of (whole.size / 2);
       }
 
-  pub found_right : clauses_of (size / 2) ≤ number - own_clauses (size / 2) (size - size / 2)
-      → Found (from + size / 2) (size - size / 2) (start + size + variables_of (size / 2))
-      (number - own_clauses (size / 2) (size - size / 2) - clauses_of (size / 2)) node
-      → Found from size start number node
-  found_right h k =
-      let rule = (table_rule size two).0 in
-      record {
-        four = k.four;
-        fewer = omega (arith, k.fewer);
-        inside = omega (arith, k.inside);
-        room = omega (arith, rule, k.room);
-        own = k.own;
-        same = λ xs fits. to_right from size xs fits two start number past h ∙ k.same xs (omega (arith, fits));
-      }
+  module _ (past : own ≤ whole.number) (node : Node) where
+    pub found_left : whole.number - own < clauses_of (whole.size / 2) → Found left node → Found whole node
+    found_left h k =
+        let rule = (table_rule whole.size two).0 in
+        record {
+          fewer = omega (arith, k.fewer);
+          inside = omega (arith, k.inside);
+          room = omega (arith, rule, k.room);
+          own = k.own;
+          same = λ xs fits.
+              to_left whole.from whole.size xs fits two whole.start whole.number past h ∙ k.same xs (omega (arith, fits));
+        }
+
+    pub found_right : clauses_of (whole.size / 2) ≤ whole.number - own → Found right node → Found whole node
+    found_right h k =
+        let rule = (table_rule whole.size two).0 in
+        record {
+          fewer = omega (arith, k.fewer);
+          inside = omega (arith, k.inside);
+          room = omega (arith, rule, k.room);
+          own = k.own;
+          same = λ xs fits.
+              to_right whole.from whole.size xs fits two whole.start whole.number past h ∙ k.same xs (omega (arith, fits));
+        }
 
 -- ── The node of a whole counter ──
 
-module _ (xs : Clause) (start number : ℕ) (node : List ℕ) (k : Found 0 (length xs) start number node) where
+module _ (xs : Clause) (start number : ℕ) (node : Node)
+    (k : Found (record { from = 0; size = length xs; start = start; number = number }) node) where
   -- Its inputs, as the code cuts them out.
   abbrev cut_out : Clause
-  cut_out = take (get_or node 0 0 + get_or node 1 0 - get_or node 0 0) (drop (get_or node 0 0) xs)
+  cut_out = take (node.from + node.size - node.from) (drop node.from xs)
 
-  pub by_node : clause_at (counter_of xs) start number ≡ clause_at (counter_of cut_out) (get_or node 2 0) (get_or node 3 0)
+  pub by_node : clause_at (counter_of xs) start number ≡ clause_at (counter_of cut_out) node.start node.number
   by_node =
-      let e : get_or node 0 0 + get_or node 1 0 - get_or node 0 0 ≡ get_or node 1 0 = omega arith in
+      let e : node.from + node.size - node.from ≡ node.size = omega arith in
       ap (λ (ys : Clause). clause_at (counter_of ys) start number) (sym (take-length xs))
       ∙ k.same xs (omega arith)
-      ∙ ap (λ n. clause_at (counter_of (take n (drop (get_or node 0 0) xs))) (get_or node 2 0) (get_or node 3 0)) (sym e)
+      ∙ ap (λ n. clause_at (counter_of (take n (drop node.from xs))) node.start node.number) (sym e)

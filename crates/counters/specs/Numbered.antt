@@ -1,7 +1,8 @@
 -- The clauses of a counter by number, as this crate hands them out.
-use Rattle.std.specs.Prelude.{◌≡◌, ◌&&◌, List, [], ◌++◌, map, ℕ, ◌+◌, ◌-◌, ◌/◌, ◌≤◌, ◌<◌, leb, pos, length, take, drop, get_or, replicate}
+use Rattle.std.specs.Prelude.{◌≡◌, ◌&&◌, [], ◌++◌, map, ℕ, ◌+◌, ◌-◌, ◌/◌, ◌≤◌, ◌<◌, leb, pos, length, take, drop, replicate}
 use Rattle.paper.specs.Clauses.{Clause, variable, pick}
 use Rattle.paper.specs.Counters.{Tree, tree_of, own_clauses, clause_at, variables_of}
+use Rattle.counters.specs.declared.Node.{Node}
 use Rattle.counters.specs.declared.Three.{Three}
 
 -- The counter whose inputs are the variables of some literals.
@@ -19,16 +20,14 @@ pub record Holds (room : Three) (clause : Clause) : Type 0 where
   pub whole : take room.length room.literals ≡ clause
   pub padded : room.literals ≡ clause ++ replicate (3 - length clause) (pos 0)
 
--- What the search for a clause by the halves finds, of the part of a counter that stands over `size` inputs from `from` on: a node as
--- four numbers, where its inputs begin, how many they are, its first variable, and the clause's number, which is of the node's own
--- unless it is a single input.
-pub record Found (from size start number : ℕ) (node : List ℕ) : Type 0 where
-  pub four : length node ≡ 4
-  pub fewer : get_or node 1 0 ≤ size
-  pub inside : get_or node 0 0 + get_or node 1 0 ≤ from + size
-  pub room : get_or node 2 0 + variables_of (get_or node 1 0) ≤ start + variables_of size
-  pub own : 1 < get_or node 1 0 → get_or node 3 0 < own_clauses (get_or node 1 0 / 2) (get_or node 1 0 - get_or node 1 0 / 2)
+-- What the search for a clause by the halves finds, of a part of a counter: a node, where its inputs begin, how many they are, its
+-- first variable, and the clause's number, which is of the node's own unless it is a single input.
+pub record Found (whole node : Node) : Type 0 where
+  pub fewer : node.size ≤ whole.size
+  pub inside : node.from + node.size ≤ whole.from + whole.size
+  pub room : node.start + variables_of node.size ≤ whole.start + variables_of whole.size
+  pub own : 1 < node.size → node.number < own_clauses (node.size / 2) (node.size - node.size / 2)
   pub same :
-      (xs : Clause) → from + size ≤ length xs
-      → clause_at (counter_of (take size (drop from xs))) start number
-      ≡ clause_at (counter_of (take (get_or node 1 0) (drop (get_or node 0 0) xs))) (get_or node 2 0) (get_or node 3 0)
+      (xs : Clause) → whole.from + whole.size ≤ length xs
+      → clause_at (counter_of (take whole.size (drop whole.from xs))) whole.start whole.number
+      ≡ clause_at (counter_of (take node.size (drop node.from xs))) node.start node.number

@@ -4,11 +4,13 @@
 
 ghost use Rattle.std.specs.Prelude.{◌≡◌, [], ◌+◌, ◌-◌, ◌/◌, ◌<◌, ◌≤◌, pos, negsuc, length};
 ghost use Rattle.paper.specs.Clauses.{Clause};
-ghost use Rattle.paper.specs.Counters.{output, previous, unless, sum_clause, own_clauses, clause_at, variables_of, clauses_of};
-ghost use Rattle.tables.specs.Tables.{table_of};
+ghost use Rattle.paper.specs.Counters.{output, unless, sum_clause, own_clauses, clause_at, variables_of};
 ghost use Rattle.counters.specs.Numbered.{counter_of, numbered, Holds, Found};
 
-// A clause of up to three literals. The entries past its length are 0.
+use tables::Tables;
+
+// A clause of up to three literals. The entries past its length are 0: `counter_clause` promises these too, by `Holds`, and of the
+// unused places of an `arrayvec` no clause says anything.
 #[derive(Clone, Copy)]
 pub struct Three {
     pub literals: [i32; 3],
@@ -19,35 +21,17 @@ fn no_clause() -> Three
     ensures { Holds result [] }
 {
     Three {
-        literals: [0, 0, 0],
+        literals: [0; 3],
         length: 0,
     }
-}
-
-// One less, and 0 for 0.
-fn previous_of(number: usize) -> usize
-    ensures { (result ≡ previous number) × (result ≡ number - 1) }
-{
-    if number == 0 {
-        return 0;
-    }
-    number - 1
-}
-
-fn positive_literal(variable: usize) -> i32
-    requires { variable < 2147483648 }
-    ensures { result ≡ pos variable }
-{
-    variable as i32
 }
 
 // An input's variable can be 2147483648, which only its negative literal has.
 fn negative_literal(variable: usize) -> i32
     requires { variable ≤ 2147483648 }
-    ensures { result ≡ negsuc (previous variable) }
+    ensures { result ≡ negsuc (variable - 1) }
 {
-    let complement = previous_of(variable) as i32;
-    !complement
+    !(variable.saturating_sub(1) as i32)
 }
 
 // "Not output `count`" of a run of outputs in front of `rest`, where `count` is above 0.
@@ -73,7 +57,7 @@ fn sum_clause(left: usize, right: usize, own: usize, a: usize, b: usize) -> Thre
     requires { (left + a ≤ 2147483649) × (right + b ≤ 2147483649) × (own + (a + b) ≤ 2147483647) }
     ensures { Holds result (sum_clause (λ k. left + k) (λ k. right + k) (λ k. own + k) a b) }
 {
-    let sum = positive_literal(own + previous_of(a + b));
+    let sum = (own + (a + b).saturating_sub(1)) as i32;
     let last = Three {
         literals: [sum, 0, 0],
         length: 1,
@@ -87,16 +71,14 @@ fn first_output(inputs: &[i32], start: usize) -> usize
     ensures value { result ≡ output (counter_of inputs.now) start 0 }
     ensures inputs_bound { result + length inputs.now ≤ 2147483649 }
 {
-    if inputs.len() == 1 {
-        let input = inputs[0];
-        return variables::variable_of(input) as usize;
+    match inputs {
+        [input] => variables::variable_of(*input) as usize,
+        _ => start,
     }
-    start
 }
 
 // A clause of the top node itself.
-fn node_clause(variables: &[u16; 65], inputs: &[i32], start: usize, number: usize) -> Three
-    requires variables_value { variables.now ≡ table_of variables_of }
+fn node_clause(tables: Tables<'_>, inputs: &[i32], start: usize, number: usize) -> Three
     requires in_bounds { (1 < length inputs.now) × (length inputs.now ≤ 64) }
     requires inputs_bound { start + variables_of (length inputs.now) ≤ 1000384 }
     requires number_bound { number < own_clauses (length inputs.now / 2) (length inputs.now - length inputs.now / 2) }
@@ -106,99 +88,90 @@ fn node_clause(variables: &[u16; 65], inputs: &[i32], start: usize, number: usiz
     let half = size / 2;
     let columns = size - half + 1;
     let left = first_output(&inputs[..half], start + size);
-    let right = first_output(
-        &inputs[half..],
-        start + size + tables::entry_of(variables, half),
-    );
+    let right = first_output(&inputs[half..], start + size + tables.variables_of(half));
     let place = number + 1;
     sum_clause(left, right, start, place / columns, place % columns)
 }
 
-// The node that a clause belongs to, found by the halves: where its inputs begin among the counter's and how many they are, its first
-// variable, and the clause's number in it. It goes by numbers alone, so that a search costs no more than its steps.
-fn node_by_halves(
-    variables: &[u16; 65],
-    clauses: &[u16; 65],
+// A part of a counter, by numbers alone: where its inputs begin among the counter's and how many they are, its first variable, and
+// the number of a clause in it.
+#[derive(Clone, Copy)]
+struct Node {
     from: usize,
     size: usize,
     start: usize,
     number: usize,
-    node: &mut [usize; 4],
-)
-    requires variables_value { (variables.now ≡ table_of variables_of) × (clauses.now ≡ table_of clauses_of) }
-    requires size_bound { (size ≤ 64) × (from + size ≤ 64) × (start + variables_of size ≤ 1000384) }
-    ensures { Found from size start number node.new }
-{
-    if size < 2 {
-        *node = [from, size, start, number];
-        return;
-    }
-    let half = size / 2;
-    let others = size - half;
-    let own = half + others + half * others;
-    if number < own {
-        *node = [from, size, start, number];
-        return;
-    }
-    let below = number - own;
-    let left = tables::entry_of(clauses, half);
-    if below < left {
-        node_by_halves(variables, clauses, from, half, start + size, below, node);
-        return;
-    }
-    let right_start = start + size + tables::entry_of(variables, half);
-    node_by_halves(
-        variables,
-        clauses,
-        from + half,
-        others,
-        right_start,
-        below - left,
-        node,
-    )
 }
 
-fn clause_by_halves(
-    variables: &[u16; 65],
-    clauses: &[u16; 65],
-    inputs: &[i32],
-    start: usize,
-    number: usize,
-) -> Three
-    requires variables_value { (variables.now ≡ table_of variables_of) × (clauses.now ≡ table_of clauses_of) }
-    requires inputs_len_bound { (length inputs.now ≤ 64) × (start + variables_of (length inputs.now) ≤ 1000384) }
+// The node that a clause belongs to, found by the halves. It goes by numbers alone, so that a search costs no more than its steps. The
+// node is narrowed where the caller keeps it: calls that hand one back take a quarter longer.
+fn node_by_halves(tables: Tables<'_>, node: &mut Node)
+    requires { (node.old.size ≤ 64) × (node.old.from + node.old.size ≤ 64)
+        × (node.old.start + variables_of node.old.size ≤ 1000384) }
+    ensures { Found node.old node.new }
+{
+    let whole = *node;
+    if whole.size < 2 {
+        return;
+    }
+    let half = whole.size / 2;
+    let others = whole.size - half;
+    let own = half + others + half * others;
+    if whole.number < own {
+        return;
+    }
+    let below = whole.number - own;
+    let left = tables.clauses_of(half);
+    if below < left {
+        *node = Node {
+            size: half,
+            start: whole.start + whole.size,
+            number: below,
+            ..whole
+        };
+        node_by_halves(tables, node);
+        return;
+    }
+    *node = Node {
+        from: whole.from + half,
+        size: others,
+        start: whole.start + whole.size + tables.variables_of(half),
+        number: below - left,
+    };
+    node_by_halves(tables, node);
+}
+
+fn clause_by_halves(tables: Tables<'_>, inputs: &[i32], start: usize, number: usize) -> Three
+    requires { (length inputs.now ≤ 64) × (start + variables_of (length inputs.now) ≤ 1000384) }
     ensures { Holds result (clause_at (counter_of inputs.now) start number) }
 {
-    let mut node: [usize; 4] = [0; 4];
-    node_by_halves(
-        variables,
-        clauses,
-        0,
-        inputs.len(),
+    let mut node = Node {
+        from: 0,
+        size: inputs.len(),
         start,
         number,
-        &mut node,
-    );
-    let from = node[0];
-    let end = from + node[1];
-    let part = &inputs[from..end];
+    };
+    node_by_halves(tables, &mut node);
+    let part = &inputs[node.from..node.from + node.size];
     if part.len() < 2 {
         return no_clause();
     }
-    node_clause(variables, part, node[2], node[3])
+    node_clause(tables, part, node.start, node.number)
 }
 
-// The tables are named here, once a clause, and lent to the search. Clause `number` of the counter over the inputs' variables, whose own variables are numbered from `start` on.
+// Clause `number` of the counter over the inputs' variables, whose own variables are numbered from `start` on. The tables are named
+// here, once a clause, and lent to the search.
 pub fn counter_clause(inputs: &[i32], start: usize, number: usize) -> Three
     ensures { Holds result (numbered inputs.now start number) }
 {
-    if 64 < inputs.len() {
-        return no_clause();
-    }
-    if 1000000 < start {
+    if 64 < inputs.len() || 1000000 < start {
         return no_clause();
     }
     let variables = tables::VARIABLES;
     let clauses = tables::CLAUSES;
-    clause_by_halves(&variables, &clauses, inputs, start, number)
+    let tables = Tables {
+        variables: &variables,
+        clauses: &clauses,
+    };
+    clause_by_halves(tables, inputs, start, number)
 }

@@ -1,5 +1,5 @@
 -- A derivation over a room of values.
-use Rattle.std.specs.Prelude.{true, false, List, [], ◌∷◌, map, ℕ, suc, ℤ}
+use Rattle.std.specs.Prelude.{true, false, List, [], ◌∷◌, map, ℕ, suc, ℤ, Option, Some, None}
 use Rattle.paper.specs.Clauses.{Clause}
 use Rattle.paper.specs.Session.{Session, hint_in, hint_clause}
 use Rattle.paper.specs.Derivation.{Value, unassigned, is, assign, ending, follow}
@@ -27,3 +27,8 @@ false_in room l (is b) = room
 abbrev pub assumed_in : List ℕ → Clause → List ℕ
 assumed_in room [] = room
 assumed_in room (l ∷ c) = assumed_in (false_in room l (literal_in room l)) c
+
+-- The place of a hint, counted from 1; 0 where there is none.
+abbrev pub place_of : Option ℕ → ℕ
+place_of None = 0
+place_of (Some place) = place

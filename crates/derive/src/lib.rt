@@ -3,215 +3,130 @@
 // whatever they held.
 #![tactic(auto)]
 
-ghost use Rattle.std.specs.Prelude.{◌≡◌, true, ◌++◌, ◌+◌, ◌≤◌, ◌<◌, length};
+ghost use Rattle.std.specs.Prelude.{◌≡◌, ◌≢◌, true, Some, ◌+◌, ◌≤◌, ◌<◌, length};
 ghost use Rattle.paper.specs.Sizes.{most_hints};
 ghost use Rattle.paper.specs.Clauses.{every};
 ghost use Rattle.paper.specs.Session.{Session, tally_of, named_literal, hint_in, hint_named};
 ghost use Rattle.paper.specs.Derivation.{assume, misfit};
 ghost use Rattle.paper.specs.Runs.{Reached};
+ghost use Rattle.values.specs.Lent.{bytes, SameValues, KeptValues};
 ghost use Rattle.marks.specs.Marks.{unmarked};
 ghost use Rattle.rooms.specs.Held.{Zeros};
 ghost use Rattle.hints.specs.Hinted.{HeldClauses};
-ghost use Rattle.derive.specs.Derivations.{hinted, misfit_in, assumed_in};
+ghost use Rattle.hints.specs.Lent.{held_in};
+ghost use Rattle.derive.specs.Derivations.{hinted, misfit_in, assumed_in, place_of};
 
-use paper::{Reading, Tally, Width};
+use hints::Clauses;
+use paper::Reading;
+use values::ValueRooms;
 
-const MOST_HINTS: usize = 256;
+pub const MOST_HINTS: usize = 256;
 
 // No width allows more, so that the trail has a place for each.
 const MOST_LITERALS: usize = 256;
 
-// Where the hints lead to, and how many literals the trail has then.
+// The place from 1 of the first hint that does not fit, none where the hints end the derivation, and how many literals the trail has
+// then.
 #[derive(Clone, Copy)]
 struct Followed {
-    place: usize,
+    misfit: Option<usize>,
     count: usize,
 }
 
-// The hints in their order: 0 where they end the derivation, else the place from 1 of the first that does not fit. What they force
-// goes on the trail.
+// The hints in their order. What they force goes on the trail.
 fn follow_hints(
-    low: &mut [u8],
-    high: &mut [u8],
-    rules: &[i32],
-    rule_ends: &[u32],
-    wishes: &[i32],
-    wish_ends: &[u32],
-    inputs: &[i32],
-    counter_ends: &[u32],
-    derived: &[i32],
-    derived_ends: &[u32],
-    width: Width,
-    tally: Tally,
+    values: &mut ValueRooms,
+    clauses: &Clauses,
     hints: &[u64],
     trail: &mut [i32],
     count: usize,
 ) -> Followed
     requires { count + length hints.now ≤ length trail.old }
+    ensures same { SameValues values.old values.new }
+    ensures counted { result.misfit ≢ Some 0 }
     ensures within { result.count ≤ length trail.old }
-    ensures undone { unmarked (low.new ++ high.new) trail.new result.count
-        ≡ unmarked (low.old ++ high.old) trail.old count }
-    ensures answer { (s : Session) → Reached s
-        → HeldClauses (record {
-          rules = rules.now;
-          rule_ends = rule_ends.now;
-          wishes = wishes.now;
-          wish_ends = wish_ends.now;
-          inputs = inputs.now;
-          counter_ends = counter_ends.now;
-          derived = derived.now;
-          derived_ends = derived_ends.now;
-        }) s
-        → width ≡ s.sheet.width → tally ≡ tally_of s
+    ensures undone { unmarked (bytes values.new) trail.new result.count
+        ≡ unmarked (bytes values.old) trail.old count }
+    ensures answer { (s : Session) → Reached s → HeldClauses (held_in clauses.now) s
+        → clauses.now.width ≡ s.sheet.width → clauses.now.tally ≡ tally_of s
         → every (λ word. hint_named s.sheet s.work (hint_in word)) hints.now ≡ true
-        → result.place ≡ misfit_in (low.old ++ high.old) 1 (hinted s hints.now) }
+        → place_of result.misfit ≡ misfit_in (bytes values.old) 1 (hinted s hints.now) }
 {
-    let mut i: usize = 0;
-    while i < hints.len() {
+    for (i, &hint) in hints.iter().enumerate() {
         let place = i + 1;
         let assigned = count + i;
-        let hint = hints[i];
-        let reading = hints::read_hint(
-            low,
-            high,
-            rules,
-            rule_ends,
-            wishes,
-            wish_ends,
-            inputs,
-            counter_ends,
-            derived,
-            derived_ends,
-            width,
-            tally,
-            hint,
-        );
-        match reading {
-            Reading::AllFalse => {
-                if place == hints.len() {
-                    return Followed {
-                        place: 0,
-                        count: assigned,
-                    };
-                }
-                return Followed {
-                    place: place,
-                    count: assigned,
-                };
-            }
+        match hints::read_hint(values, clauses, hint) {
             Reading::Forces(literal) => {
-                marks::assign_next(low, high, trail, assigned, literal, true);
+                marks::assign_next(values, trail, assigned, literal, true);
             }
-            Reading::AlreadyTrue => {
+            Reading::AllFalse if place == hints.len() => {
                 return Followed {
-                    place: place,
+                    misfit: None,
                     count: assigned,
                 };
             }
-            Reading::StillOpen => {
+            Reading::AllFalse | Reading::AlreadyTrue | Reading::StillOpen => {
                 return Followed {
-                    place: place,
+                    misfit: Some(place),
                     count: assigned,
                 };
             }
         }
-        i = place;
     }
     Followed {
-        place: i + 1,
-        count: count + i,
+        misfit: Some(hints.len() + 1),
+        count: count + hints.len(),
     }
 }
 
 // Takes the clause's literals as false, where they have no value yet, and says how many that are.
-fn assume(low: &mut [u8], high: &mut [u8], clause: &[i32], trail: &mut [i32]) -> usize
+fn assume(values: &mut ValueRooms, clause: &[i32], trail: &mut [i32]) -> usize
     requires { length clause.now ≤ length trail.old }
+    ensures same { SameValues values.old values.new }
     ensures within { result ≤ length clause.now }
-    ensures undone { unmarked (low.new ++ high.new) trail.new result
-        ≡ low.old ++ high.old }
-    ensures assumed { low.new ++ high.new
-        ≡ assumed_in (low.old ++ high.old) clause.now }
+    ensures undone { unmarked (bytes values.new) trail.new result
+        ≡ bytes values.old }
+    ensures assumed { bytes values.new
+        ≡ assumed_in (bytes values.old) clause.now }
 {
     let mut count: usize = 0;
-    let mut j: usize = 0;
-    while j < clause.len() {
-        let literal = clause[j];
-        j += 1;
-        if values::value(low, high, literal) == 0 {
-            marks::assign_next(low, high, trail, count, literal, false);
+    for &literal in clause {
+        if values.value(literal).is_none() {
+            marks::assign_next(values, trail, count, literal, false);
             count += 1;
         }
     }
     count
 }
 
-// 0 where the hints show the clause, else the place from 1 of the first that does not fit. The trail has a place for every literal
+// None where the hints show the clause, else the place from 1 of the first that does not fit. The trail has a place for every literal
 // and every hint that the sizes allow: more of them, which 16 or 19 has refused, are not followed.
 pub fn misfit_of(
-    low: &mut [u8],
-    high: &mut [u8],
-    rules: &[i32],
-    rule_ends: &[u32],
-    wishes: &[i32],
-    wish_ends: &[u32],
-    inputs: &[i32],
-    counter_ends: &[u32],
-    derived: &[i32],
-    derived_ends: &[u32],
-    width: Width,
-    tally: Tally,
+    values: &mut ValueRooms,
+    clauses: &Clauses,
     clause: &[i32],
     hints: &[u64],
-) -> usize
-    ensures kept { (low.new ≡ low.old) × (high.new ≡ high.old) }
-    ensures answer { (s : Session) → Reached s
-        → HeldClauses (record {
-          rules = rules.now;
-          rule_ends = rule_ends.now;
-          wishes = wishes.now;
-          wish_ends = wish_ends.now;
-          inputs = inputs.now;
-          counter_ends = counter_ends.now;
-          derived = derived.now;
-          derived_ends = derived_ends.now;
-        }) s
-        → width ≡ s.sheet.width → tally ≡ tally_of s
+) -> Option<usize>
+    ensures kept { KeptValues values.old values.new }
+    ensures counted { result ≢ Some 0 }
+    ensures answer { (s : Session) → Reached s → HeldClauses (held_in clauses.now) s
+        → clauses.now.width ≡ s.sheet.width → clauses.now.tally ≡ tally_of s
         → every (λ word. hint_named s.sheet s.work (hint_in word)) hints.now ≡ true
         → every (named_literal s.sheet s.work) clause.now ≡ true
-        → Zeros s.sheet.width (low.old ++ high.old)
-        → length hints.now ≤ most_hints → length clause.now ≤ width.literals
-        → result ≡ misfit (assume clause.now) 1 (hinted s hints.now) }
-    ensures long { (most_hints < length hints.now → result ≡ 1)
-        × (width.literals < length clause.now → result ≡ 1) }
+        → Zeros s.sheet.width (bytes values.old)
+        → length hints.now ≤ most_hints → length clause.now ≤ clauses.now.width.literals
+        → place_of result ≡ misfit (assume clause.now) 1 (hinted s hints.now) }
+    ensures long { (most_hints < length hints.now → result ≡ Some 1)
+        × (clauses.now.width.literals < length clause.now → result ≡ Some 1) }
 {
-    if MOST_HINTS < hints.len() {
-        return 1;
+    let allowed = MOST_LITERALS.min(clauses.width.literals as usize);
+    if MOST_HINTS < hints.len() || allowed < clause.len() {
+        return Some(1);
     }
-    if (width.literals as usize) < clause.len() {
-        return 1;
-    }
-    if MOST_LITERALS < clause.len() {
-        return 1;
-    }
+    // No list that grows: nothing here takes memory from a heap.
     let mut trail: [i32; 512] = [0; 512];
-    let assumed = assume(low, high, clause, &mut trail);
-    let followed = follow_hints(
-        low,
-        high,
-        rules,
-        rule_ends,
-        wishes,
-        wish_ends,
-        inputs,
-        counter_ends,
-        derived,
-        derived_ends,
-        width,
-        tally,
-        hints,
-        &mut trail,
-        assumed,
-    );
-    marks::take_back(&trail, followed.count, low, high);
-    followed.place
+    let assumed = assume(values, clause, &mut trail);
+    let followed = follow_hints(values, clauses, hints, &mut trail, assumed);
+    marks::take_back(&trail, followed.count, values);
+    followed.misfit
 }

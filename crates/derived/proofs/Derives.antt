@@ -3,6 +3,9 @@
 use mathlib.Core.Path.{◌≡◌, refl, sym, ◌∙◌, ap}
 use mathlib.Core.Bool.{Bool, true, false, not, ◌||◌, ◌&&◌}
 use mathlib.Core.List.{List, [], ◌∷◌, ◌++◌, map}
+use mathlib.Core.Logic.{◌≢◌}
+use Rattle.std.specs.Prelude.{Option, Some, None}
+use Rattle.std.specs.Option.{is_some}
 use Prim.Native.Nat.{ℕ, ◌+◌, ◌<◌, ◌≤◌}
 use native.Mathlib.Omega.{arith}
 use lib.Dec.{ltb, lit<}
@@ -15,6 +18,8 @@ use Rattle.paper.specs.declared.Tally.{Tally}
 use Rattle.paper.specs.declared.Answer.TheVariants.{Derived, Refused}
 use Rattle.paper.specs.Clauses.{Clause, every, pick}
 use Rattle.paper.specs.Session.{Session, Hint, tally_of, hint_in, hint_named, hint_clause, named_literal}
+use Rattle.paper.specs.Reasons.{reason_number}
+use Rattle.paper.specs.declared.Reason.{Reason}
 use Rattle.paper.specs.Answers.{Refusal, refuse}
 use Rattle.paper.specs.Derivation.{shows, misfit, assume}
 use Rattle.paper.specs.Steps.{derive, admission, full, next, outcome}
@@ -23,9 +28,11 @@ use Rattle.paper.proofs.Lists.{passed}
 use Rattle.paper.proofs.Reach.{reached_narrow}
 use Rattle.clauses.specs.Lowest.{Plain, lowest, number_of}
 use Rattle.clauses.specs.Family.{Appended}
+use Rattle.clauses.proofs.Lists.{unlike}
 use Rattle.clauses.proofs.Lowest.{admission_plain, none_applies}
-use Rattle.derive.specs.Derivations.{hinted}
+use Rattle.derive.specs.Derivations.{hinted, place_of}
 use Rattle.rooms.specs.Held.{HeldDerived, Zeros}
+use Rattle.hints.specs.Hinted.{HeldClauses}
 use Rattle.rooms.proofs.Outcomes.{Refuses, part_refuses, full_refuses, room_accepts}
 use Rattle.rooms.proofs.Families.{none_left, was_full, was_roomy, still_held, more_held}
 
@@ -65,6 +72,45 @@ zeros_wide s r values z = rw (reached_narrow s r) z
 -- The value rooms as they were are zeros as they were.
 pub zeros_kept : {u : Width} {low low' high high' : List ℕ} → low' ≡ low → high' ≡ high → Zeros u (low ++ high) → Zeros u (low' ++ high')
 zeros_kept e f z = rw (e, f) z
+
+-- Each reason has a number.
+pub some_number : (reason : Reason) → reason_number reason ≡ 0 → ⊥
+some_number reason e = grind arith
+
+-- A hint that does not fit has a place, counted from 1.
+pub some_place : (misfit : Option ℕ) → misfit ≢ Some 0 → true ≡ is_some misfit → place_of misfit ≡ 0 → ⊥
+some_place None counted e zero = unlike (sym e)
+some_place (Some place) counted e zero = counted (ap Some zero)
+
+pub no_place : (misfit : Option ℕ) → false ≡ is_some misfit → place_of misfit ≡ 0
+no_place None e = refl
+no_place (Some place) e = unlike e
+
+-- The derived clauses seen through a view that has their rooms.
+pub held_seen : (s : Session) {rules : List ℤ} {rule_ends : List ℕ} {wishes : List ℤ} {wish_ends : List ℕ} {inputs : List ℤ}
+    {counter_ends : List ℕ} {derived : List ℤ} {derived_ends : List ℕ} (seen : List ℤ) (seen_ends : List ℕ) → seen ≡ derived
+    → seen_ends ≡ derived_ends
+    → HeldClauses (record {
+      rules = rules;
+      rule_ends = rule_ends;
+      wishes = wishes;
+      wish_ends = wish_ends;
+      inputs = inputs;
+      counter_ends = counter_ends;
+      derived = derived;
+      derived_ends = derived_ends;
+    }) s
+    → HeldClauses (record {
+      rules = rules;
+      rule_ends = rule_ends;
+      wishes = wishes;
+      wish_ends = wish_ends;
+      inputs = inputs;
+      counter_ends = counter_ends;
+      derived = seen;
+      derived_ends = seen_ends;
+    }) s
+held_seen s seen seen_ends e f H = rw (e, f) H
 
 pub short_enough : {u v : Width} {n : ℕ} → u ≡ v → n ≤ v.literals → n ≤ u.literals
 short_enough e h = rw e h

@@ -3,118 +3,81 @@
 // refusal so leaves everything as it was.
 #![tactic(auto)]
 
-ghost use Rattle.std.specs.Prelude.{◌≡◌, ◌++◌, map};
+ghost use Rattle.std.specs.Prelude.{◌≡◌, map};
 ghost use Rattle.paper.specs.Sizes.{narrow};
 ghost use Rattle.paper.specs.Session.{Session, tally_of, hint_in};
 ghost use Rattle.paper.specs.Steps.{derive as deriveStep, next, outcome};
 ghost use Rattle.paper.specs.Runs.{Reached};
+ghost use Rattle.clauses.specs.Lent.{SameFamily};
+ghost use Rattle.values.specs.Lent.{bytes, KeptValues};
 ghost use Rattle.rooms.specs.Held.{HeldDerived, Zeros};
 ghost use Rattle.hints.specs.Hinted.{HeldClauses};
 
-use paper::{Answer, Outcome, Tally};
+use clauses::{FamilyRooms, FamilyRoomsMut};
+use hints::Clauses;
+use paper::{Answer, Outcome, Reason, Tally};
+use values::ValueRooms;
 
-// The tally with one derived clause more.
-fn derived_more(tally: Tally, count: u32, literals: u32) -> Outcome
-    ensures { result ≡ record {
-      tally = record {
-        variables = tally.variables;
-        rules = tally.rules;
-        wishes = tally.wishes;
-        derived = count;
-        counters = tally.counters;
-        bound = tally.bound;
-      };
-      answer = Answer.Derived tally.derived literals;
-    } }
-{
-    Outcome {
-        tally: Tally {
-            variables: tally.variables,
-            rules: tally.rules,
-            wishes: tally.wishes,
-            derived: count,
-            counters: tally.counters,
-            bound: tally.bound,
-        },
-        answer: Answer::Derived(tally.derived, literals),
-    }
-}
+const MOST_DERIVED: u32 = 4096;
 
 // A hint is the number of its 8 bytes.
 pub fn derive(
     tally: Tally,
-    rules: &[i32],
-    rule_ends: &[u32],
-    wishes: &[i32],
-    wish_ends: &[u32],
-    inputs: &[i32],
-    counter_ends: &[u32],
-    derived: &mut [i32],
-    derived_ends: &mut [u32],
-    low: &mut [u8],
-    high: &mut [u8],
+    rules: FamilyRooms,
+    wishes: FamilyRooms,
+    counters: FamilyRooms,
+    derived: &mut FamilyRoomsMut,
+    values: &mut ValueRooms,
     clause: &[i32],
     hints: &[u64],
 ) -> Outcome
-    ensures kept { (low.new ≡ low.old) × (high.new ≡ high.old) }
+    ensures same { SameFamily derived.old derived.new }
+    ensures kept { KeptValues values.old values.new }
     ensures stepped { (s : Session) → Reached s → tally ≡ tally_of s
         → HeldClauses (record {
-          rules = rules.now;
-          rule_ends = rule_ends.now;
-          wishes = wishes.now;
-          wish_ends = wish_ends.now;
-          inputs = inputs.now;
-          counter_ends = counter_ends.now;
-          derived = derived.old;
-          derived_ends = derived_ends.old;
+          rules = rules.entry.literals.now;
+          rule_ends = rules.entry.ends.now;
+          wishes = wishes.entry.literals.now;
+          wish_ends = wishes.entry.ends.now;
+          inputs = counters.entry.literals.now;
+          counter_ends = counters.entry.ends.now;
+          derived = derived.old.literals.now;
+          derived_ends = derived.old.ends.now;
         }) s
-        → Zeros narrow (low.old ++ high.old)
+        → Zeros narrow (bytes values.old)
         → (result ≡ outcome s (deriveStep clause.now (map hint_in hints.now)))
-        × HeldDerived derived.new derived_ends.new
+        × HeldDerived derived.new.literals.now derived.new.ends.now
         (next s (deriveStep clause.now (map hint_in hints.now))) }
 {
     if tally.variables == 0 {
-        return openings::refused(tally, 12);
+        return openings::refuse(tally, Reason::OutOfTurn);
     }
     let width = openings::width_of(tally);
-    let number = names::named_refusal(width, tally, counter_ends, clause, low, high);
-    if number != 0 {
-        return openings::refused(tally, number);
+    if let Err(reason) = names::named_refusal(width, tally, counters.ends, clause, values) {
+        return openings::refuse(tally, reason);
     }
-    if 256 < hints.len() {
-        return openings::refused(tally, 19);
+    if derive::MOST_HINTS < hints.len() || !names::all_hints_named(tally, counters.ends, hints) {
+        return openings::refuse(tally, Reason::StrangeHint);
     }
-    if !names::all_hints_named(tally, counter_ends, hints) {
-        return openings::refused(tally, 19);
-    }
-    let place = derive::misfit_of(
-        low,
-        high,
+    let clauses = Clauses {
         rules,
-        rule_ends,
         wishes,
-        wish_ends,
-        inputs,
-        counter_ends,
-        derived,
-        derived_ends,
+        counters,
+        derived: derived.view(),
         width,
         tally,
-        clause,
-        hints,
-    );
-    if place != 0 {
-        return openings::refused(tally, 20);
+    };
+    if derive::misfit_of(values, &clauses, clause, hints).is_some() {
+        return openings::refuse(tally, Reason::NotShown);
     }
-    let count = tally.derived;
-    if 4095 < count {
-        return openings::refused(tally, 23);
+    if MOST_DERIVED <= tally.derived || !derived.append(tally.derived, clause) {
+        return openings::refuse(tally, Reason::NoRoom);
     }
-    if 65535 < clause.len() {
-        return openings::refused(tally, 23);
+    Outcome {
+        tally: Tally {
+            derived: tally.derived + 1,
+            ..tally
+        },
+        answer: Answer::Derived(tally.derived, clause.len() as u32),
     }
-    if !clauses::append(derived, derived_ends, count, clause) {
-        return openings::refused(tally, 23);
-    }
-    derived_more(tally, count + 1, clause.len() as u32)
 }

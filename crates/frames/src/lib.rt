@@ -8,26 +8,7 @@ ghost use Rattle.paper.specs.Inputs.{front};
 ghost use Rattle.frames.specs.Frames.{stops};
 
 use paper::Front;
-
-// A part has places of its own: no sum of places is made, and so none can wrap.
-fn rest(bytes: &[u8], at: usize) -> &[u8]
-    ensures { result.now ≡ drop at bytes.now }
-{
-    if at <= bytes.len() {
-        return &bytes[at..];
-    }
-    &bytes[..0]
-}
-
-// Where there are fewer, it is all of them, as on paper.
-fn first(bytes: &[u8], count: usize) -> &[u8]
-    ensures { result.now ≡ take count bytes.now }
-{
-    if count <= bytes.len() {
-        return &bytes[0..count];
-    }
-    bytes
-}
+use payload::rest;
 
 pub fn front(block: &[u8], at: usize) -> Front
     ensures { result ≡ front (drop at block.now) }
@@ -36,14 +17,11 @@ pub fn front(block: &[u8], at: usize) -> Front
     if bytes.len() < 4 {
         return Front::Short;
     }
-    let length = payload::number_of_four(bytes, 0);
-    if length < 2 || 4096 < length {
-        return Front::Wrong;
+    match payload::number_of_four(bytes, 0) as usize {
+        length if !(2..=4096).contains(&length) => Front::Wrong,
+        length if bytes.len() < 4 + length => Front::Short,
+        length => Front::Whole(length),
     }
-    if bytes.len() < 4 + length as usize {
-        return Front::Short;
-    }
-    Front::Whole(length as usize)
 }
 
 pub fn kind_at(block: &[u8], at: usize) -> u32
@@ -52,29 +30,19 @@ pub fn kind_at(block: &[u8], at: usize) -> u32
     payload::number_of_two(rest(block, at), 4)
 }
 
-// The kind takes two bytes of what the length counts.
-fn payload_length(length: usize) -> usize
-    ensures { result ≡ length - 2 }
-{
-    if length < 2 {
-        return 0;
-    }
-    length - 2
-}
-
-// The very part of the block that the payload stands in, of a record of this length.
+// The very part of the block that the payload stands in, of a record of this length: the kind takes two bytes of what the length
+// counts, and where there are fewer bytes, it is all of them, as on paper.
 pub fn payload_at(block: &[u8], at: usize, length: usize) -> &[u8]
     ensures { result.now ≡ take (length - 2) (drop 6 (drop at block.now)) }
 {
     let bytes = rest(rest(block, at), 6);
-    first(bytes, payload_length(length))
+    &bytes[..length.saturating_sub(2).min(bytes.len())]
 }
 
 pub fn stops(block: &[u8], at: usize, last: bool) -> bool
     ensures { result ≡ stops last (drop at block.now) }
 {
-    let found = front(block, at);
-    match found {
+    match front(block, at) {
         Front::Short => last && at < block.len(),
         Front::Wrong => true,
         Front::Whole(_) => false,

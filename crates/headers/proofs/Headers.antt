@@ -8,6 +8,7 @@ use lib.Dec.{eqb, ltb}
 use lib.ListN.{length, take, drop, get_or, length-drop, drop_of_length-le}
 use lib.Seq.{take-add, drop_at, length-take-le, get_or-take, get_or-drop}
 use borrow.Author.Tests.{eqb-true, eq-eqb, ltb-true, ltb-false}
+use Rattle.std.specs.Prelude.{Some, None}
 use Rattle.paper.specs.Clauses.{pick}
 use Rattle.paper.specs.Texts.{
   first,
@@ -29,9 +30,10 @@ use Rattle.paper.specs.Texts.{
 use Rattle.paper.proofs.Lists.{and_split, and_both}
 use Rattle.words.specs.Words.{starts_line, stand_at, words_at}
 use Rattle.words.proofs.Fronts.{line_front, front_taken, front_short}
-use Rattle.headers.specs.declared.Heading.{Heading}
 use Rattle.headers.specs.declared.Three.{Three}
-use Rattle.headers.specs.Headings.{is_number, three_form, three_of, no_three, no_heading, heading_of}
+use Rattle.headers.specs.Headings.{is_number, three_form, three_of, heading, heading_of}
+use Rattle.std.proofs.lemmas.Option.{cond_some}
+use Rattle.numerals.proofs.Choices.{none_picked}
 use Rattle.headers.proofs.Numbers.{and_none}
 
 -- ── A word that some bytes begin with ──
@@ -54,15 +56,6 @@ six_fit text start b = omega (arith, begins_short header_start (drop start text)
 
 -- ── The form ──
 
--- What is read where the form is there.
-abbrev pub heading : List ℕ → Heading
-heading text = record {
-  fits = true;
-  header = header_of text;
-  at = (header_word text 0).at;
-  end = header_at text + 7 + length (header_line text);
-}
-
 -- The three tests of the form.
 abbrev start_test : List ℕ → Bool
 start_test text = begins header_start (drop (header_at text) text)
@@ -77,8 +70,8 @@ form_is : (text : List ℕ) → header_form text ≡ (start_test text && (blank_
 unfolding is_number
 form_is text = refl
 
-pub heading_none : (text : List ℕ) → header_form text ≡ false → no_heading ≡ heading_of text
-heading_none text e = ap (λ (b : Bool). pick b (heading text) no_heading) (sym e)
+pub heading_none : (text : List ℕ) → header_form text ≡ false → None ≡ heading_of text
+heading_none text e = rw e
 
 first_fails : (a b : Bool) → a ≡ false → (a && b) ≡ false
 first_fails a b e = rw e
@@ -89,19 +82,19 @@ second_fails a b c e = rw (e, and_none a)
 third_fails : (a b c : Bool) → c ≡ false → (a && (b && c)) ≡ false
 third_fails a b c e = rw (e, and_none b, and_none a)
 
-start_fails : (text : List ℕ) → start_test text ≡ false → no_heading ≡ heading_of text
+start_fails : (text : List ℕ) → start_test text ≡ false → None ≡ heading_of text
 start_fails text e = heading_none text (form_is text ∙ first_fails (start_test text) (blank_test text && numbers_test text) e)
 
-blank_fails : (text : List ℕ) → blank_test text ≡ false → no_heading ≡ heading_of text
+blank_fails : (text : List ℕ) → blank_test text ≡ false → None ≡ heading_of text
 blank_fails text e = heading_none text (form_is text ∙ second_fails (start_test text) (blank_test text) (numbers_test text) e)
 
-numbers_fail : (text : List ℕ) → numbers_test text ≡ false → no_heading ≡ heading_of text
+numbers_fail : (text : List ℕ) → numbers_test text ≡ false → None ≡ heading_of text
 numbers_fail text e = heading_none text (form_is text ∙ third_fails (start_test text) (blank_test text) (numbers_test text) e)
 
-pub heading_some : (text : List ℕ) → header_form text ≡ true → heading text ≡ heading_of text
-heading_some text e = ap (λ (b : Bool). pick b (heading text) no_heading) (sym e)
+pub heading_some : (text : List ℕ) → header_form text ≡ true → Some (heading text) ≡ heading_of text
+heading_some text e = rw e
 
-passed : (text : List ℕ) → start_test text ≡ true → blank_test text ≡ true → numbers_test text ≡ true → heading text ≡ heading_of text
+passed : (text : List ℕ) → start_test text ≡ true → blank_test text ≡ true → numbers_test text ≡ true → Some (heading text) ≡ heading_of text
 passed text p q r =
     heading_some text (form_is text ∙ and_both (start_test text) _ p (and_both (blank_test text) (numbers_test text) q r))
 
@@ -116,16 +109,9 @@ line_starts : (text : List ℕ) (place at : ℕ) → place ≡ suc at → (b : B
 unfolding starts_line
 line_starts text place at e b f = rw e f
 
-fits_of : (f : Bool) (x : Three) → x.fits ≡ true → (pick f x no_three).fits ≡ f
-fits_of true x e = e
-fits_of false x e = refl
-
-chosen : (f : Bool) (x y : Three) → f ≡ true → pick f x y ≡ x
-chosen f x y e = rw e
-
 -- The three numbers of a header, as the paper reads them.
 abbrev three_in : List ℕ → Three
-three_in text = record { fits = true; header = header_of text; at = (header_word text 0).at }
+three_in text = record { header = header_of text; at = (header_word text 0).at }
 
 module _ (text : List ℕ) (start : ℕ) (is : start ≡ 0 + gap (stand_at text 0) (drop 0 text)) where
   start_is : start ≡ header_at text
@@ -134,7 +120,7 @@ module _ (text : List ℕ) (start : ℕ) (is : start ≡ 0 + gap (stand_at text 
   begins_is : begins header_start (drop start text) ≡ start_test text
   begins_is = ap (λ n. begins header_start (drop n text)) start_is
 
-  pub no_start : begins header_start (drop start text) ≡ false → no_heading ≡ heading_of text
+  pub no_start : begins header_start (drop start text) ≡ false → None ≡ heading_of text
   no_start e = start_fails text (sym begins_is ∙ e)
 
   module _ (b : begins header_start (drop start text) ≡ true) where
@@ -161,7 +147,7 @@ module _ (text : List ℕ) (start : ℕ) (is : start ≡ 0 + gap (stand_at text 
           let n : length (line (drop (start + 6) text)) ≡ end - (start + 6) = omega (arith, e) in
           sym line_is ∙ sym (front_taken line_front (drop (start + 6) text)) ∙ ap (λ n. take n (drop (start + 6) text)) n
 
-      pub no_line : end ≤ start + 6 → no_heading ≡ heading_of text
+      pub no_line : end ≤ start + 6 → None ≡ heading_of text
       no_line h =
           let n : end - (start + 6) ≡ 0 = omega (arith, h) in
           let none : header_line text ≡ [] = taken ∙ rw n in
@@ -178,7 +164,7 @@ module _ (text : List ℕ) (start : ℕ) (is : start ≡ 0 + gap (stand_at text 
             ∙ ap (λ n. get_or text n 0) n in
             ap blank (sym there)
 
-        pub no_blank : blank (get_or text (start + 6) 0) ≡ false → no_heading ≡ heading_of text
+        pub no_blank : blank (get_or text (start + 6) 0) ≡ false → None ≡ heading_of text
         no_blank f = blank_fails text (sym blank_is ∙ f)
 
         -- The stretch that ends with the line has the header's words.
@@ -203,25 +189,17 @@ module _ (text : List ℕ) (start : ℕ) (is : start ≡ 0 + gap (stand_at text 
         unfolding words_at
         words_are = rw (in_line, rest, start_is)
 
-        module _ (three : Three) (t : three ≡ three_of (words_at (take end text) (start + 6))) where
-          three_is : three ≡ three_of (header_words text)
-          three_is = t ∙ ap three_of words_are
+        pub not_three : None ≡ three_of (words_at (take end text) (start + 6)) → None ≡ heading_of text
+        not_three t = numbers_fail text (none_picked (numbers_test text) (three_in text) (t ∙ ap three_of words_are))
 
-          fits_is : three.fits ≡ numbers_test text
-          fits_is = ap (λ (x : Three). x.fits) three_is ∙ fits_of (numbers_test text) (three_in text) refl
-
-          pub not_three : three.fits ≡ false → no_heading ≡ heading_of text
-          not_three f = numbers_fail text (sym fits_is ∙ f)
-
-          numbers_are : three.fits ≡ true → three ≡ three_in text
-          numbers_are f = three_is ∙ chosen (numbers_test text) (three_in text) no_three (sym fits_is ∙ f)
-
-          pub header_read : blank (get_or text (start + 6) 0) ≡ true → three.fits ≡ true
-              → record { fits = true; header = three.header; at = three.at; end = end + 1 } ≡ heading_of text
-          header_read k f =
-              let next : end + 1 ≡ header_at text + 7 + length (header_line text) = omega (arith, h, start_is, size) in
-              (λ i. record { fits = true; header = (numbers_are f i).header; at = (numbers_are f i).at; end = next i })
-              ∙ passed text (sym begins_is ∙ b) (sym blank_is ∙ k) (sym fits_is ∙ f)
+        pub header_read : (three : Three) → Some three ≡ three_of (words_at (take end text) (start + 6))
+            → blank (get_or text (start + 6) 0) ≡ true
+            → Some (record { header = three.header; at = three.at; end = end + 1 }) ≡ heading_of text
+        header_read three t k =
+            let is = cond_some (numbers_test text) (three_in text) three (sym (t ∙ ap three_of words_are)) in
+            let next : end + 1 ≡ header_at text + 7 + length (header_line text) = omega (arith, h, start_is, size) in
+            (λ i. Some (record { header = (sym is.1 i).header; at = (sym is.1 i).at; end = next i }))
+            ∙ passed text (sym begins_is ∙ b) (sym blank_is ∙ k) is.0
 
 -- ── For callers ──
 

@@ -1,5 +1,5 @@
 -- What the header of an older text reads as, and what the words of its line do.
-use Rattle.std.specs.Prelude.{◌≡◌, Bool, true, false, ◌&&◌, List, [], ◌∷◌, ℕ, ◌+◌, ◌-◌, eqb, length, take, drop, get_or}
+use Rattle.std.specs.Prelude.{◌≡◌, Bool, true, false, ◌&&◌, List, [], ◌∷◌, ℕ, ◌+◌, ◌-◌, eqb, length, take, drop, get_or, Option, Some, None}
 use Rattle.paper.specs.declared.Header.{Header}
 use Rattle.paper.specs.Clauses.{every, pick}
 use Rattle.paper.specs.Texts.{Word, value, decimal_up_to, most_number, header_at, header_line, header_form, header_word, header_of}
@@ -27,9 +27,9 @@ pub record Leads (line : List ℕ) (at : ℕ) (n : Number) : Type 0 where
   pub value : n.value ≡ value (word_of line n).bytes
   pub words : words_at line at ≡ word_of line n ∷ words_at line n.end
 
-pub record NumberAt (line : List ℕ) (at : ℕ) (n : Number) : Type 0 where
-  pub none : n.fits ≡ false → number_first (words_at line at) ≡ false
-  pub some : n.fits ≡ true → Leads line at n
+abbrev pub NumberAt : List ℕ → ℕ → Option Number → Type 0
+NumberAt line at None = number_first (words_at line at) ≡ false
+NumberAt line at (Some n) = Leads line at n
 
 -- ── Three numbers ──
 
@@ -43,28 +43,16 @@ word_in ws i = get_or ws i (record { at = 0; bytes = [] })
 abbrev pub header_in : List Word → Header
 header_in ws = record { variables = value (word_in ws 0).bytes; clauses = value (word_in ws 1).bytes; top = value (word_in ws 2).bytes }
 
-abbrev pub no_numbers : Header
-no_numbers = record { variables = 0; clauses = 0; top = 0 }
-
-abbrev pub no_three : Three
-no_three = record { fits = false; header = no_numbers; at = 0 }
-
-abbrev pub three_of : List Word → Three
-three_of ws = pick (three_form ws) (record { fits = true; header = header_in ws; at = (word_in ws 0).at }) no_three
+abbrev pub three_of : List Word → Option Three
+three_of ws = pick (three_form ws) (Some (record { header = header_in ws; at = (word_in ws 0).at })) None
 
 -- ── The header ──
 
-abbrev pub no_heading : Heading
-no_heading = record { fits = false; header = no_numbers; at = 0; end = 0 }
-
 -- The clauses begin behind the line's LF, or one past the text's end where the LF is missing.
-abbrev pub heading_of : List ℕ → Heading
-heading_of text =
-    pick (header_form text)
-    (record {
-      fits = true;
-      header = header_of text;
-      at = (header_word text 0).at;
-      end = header_at text + 7 + length (header_line text);
-    })
-    no_heading
+abbrev pub heading : List ℕ → Heading
+heading text =
+    record { header = header_of text; at = (header_word text 0).at; end = header_at text + 7 + length (header_line text) }
+
+-- Where the header has its form.
+abbrev pub heading_of : List ℕ → Option Heading
+heading_of text = pick (header_form text) (Some (heading text)) None

@@ -3,40 +3,13 @@
 #![tactic(auto)]
 
 ghost use Rattle.std.specs.Prelude.{◌≡◌, ◌+◌, ◌≤◌, length};
-ghost use Rattle.paper.specs.Answers.{give, numbers};
 ghost use Rattle.paper.specs.Inputs.{decimal};
 ghost use Rattle.lines.specs.Lines.{word, Written, Printed};
 
-use paper::{Answer, Numbers};
+use paper::Numbers;
 
 // What the longest line takes.
 const LINE_ROOM: usize = 65;
-
-pub fn numbers_of(answer: Answer) -> Numbers
-    ensures { result ≡ numbers answer }
-{
-    match answer {
-        Answer::Opened(variables) => give(0, variables, 0),
-        Answer::Rule(number) => give(0, number, 0),
-        Answer::Wish(number, variable) => give(0, number, variable),
-        Answer::Derived(number, literals) => give(0, number, literals),
-        Answer::Core(bound, weight) => give(0, bound, weight),
-        Answer::Best(cost, bound) => give(1, cost, bound),
-        Answer::Counted(cost, bound) => give(0, cost, bound),
-        Answer::Broken(rule) => give(24, rule, 0),
-        Answer::Refused(number) => give(number, 0, 0),
-    }
-}
-
-fn give(number: u32, first: u32, second: u32) -> Numbers
-    ensures { result ≡ give number first second }
-{
-    Numbers {
-        number: number,
-        first: first,
-        second: second,
-    }
-}
 
 // The call stack holds the digits that come later, so that no digit is moved or reversed.
 fn put_number(out: &mut [u8], at: usize, number: u64) -> usize
@@ -74,10 +47,7 @@ fn put_short_word(out: &mut [u8], at: usize, number: u32, end: u8) -> usize
 pub fn put_line(out: &mut [u8], at: usize, place: u64, kind: u32, given: Numbers) -> usize
     ensures { Printed out.old at (record { place = place; kind = kind; given = given }) result out.new }
 {
-    if out.len() < LINE_ROOM {
-        return at;
-    }
-    if out.len() - LINE_ROOM < at {
+    if out.len() < LINE_ROOM || out.len() - LINE_ROOM < at {
         return at;
     }
     let second = put_word(out, at, place, b' ');

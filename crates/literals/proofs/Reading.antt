@@ -1,17 +1,19 @@
 -- A turn of the reading: what is still to come leads where the whole does.
 use mathlib.Core.Path.{◌≡◌, refl, sym, ◌∙◌, ap}
-use mathlib.Core.Bool.{Bool, true, false}
+use mathlib.Core.Bool.{true}
 use mathlib.Core.List.{List, [], ◌∷◌, ◌++◌}
 use Prim.Native.Nat.{ℕ, suc, ◌+◌, ◌-◌, ◌≤◌, ◌<◌}
 use native.Mathlib.Omega.{arith}
 use lib.IntN.{ℤ, pos}
 use lib.ListN.{length, take, drop, set, length-append, length-drop, drop_of_length-le}
 use lib.Seq.{sets, sets-eq, length-take-le, take-append_seam}
+use Rattle.std.specs.Prelude.{Some, None}
+use Rattle.std.proofs.lemmas.Option.{cond_some}
 use Rattle.paper.specs.Clauses.{Clause}
 use Rattle.paper.specs.Texts.{Word, literal_word, literal_of}
-use Rattle.words.specs.Words.{words_at, Next}
-use Rattle.numerals.specs.declared.Literal.{Literal}
+use Rattle.words.specs.Words.{words_at, NoWord, NextWord}
 use Rattle.numerals.specs.Numerals.{literal_in}
+use Rattle.numerals.proofs.Choices.{none_picked}
 use Rattle.literals.specs.Reading.{ReadLiterals, stop_at, stop_at_end, literals_of, literals_at, Reads}
 use Rattle.literals.proofs.Words.{no_literal, zero_ends, one_more, zero_word, some_word}
 
@@ -70,58 +72,55 @@ module _ {text : List ℕ} {at : ℕ} {room₀ room : List ℤ} {place count : �
         further = further;
       }
 
-  pub at_end : {start end : ℕ} → Next text place start end → length text ≤ start
-      → Reads text at room₀ 32 (length text) count (length text) room
+  pub at_end : NoWord text place → Reads text at room₀ 32 (length text) count (length text) room
   unfolding literals_of
-  at_end N h =
-      answered (stop_at_end (length text) R.kept) (R.goes_on ∙ ap (literals_of (length text) R.kept) (N.none h)) refl
+  at_end N =
+      answered (stop_at_end (length text) R.kept) (R.goes_on ∙ ap (literals_of (length text) R.kept) N.none) refl
       (words_over text (length text) (omega arith)) (omega arith) (λ k. k) (λ k. absurd (omega arith))
 
-  -- A word is found: `r` is what it reads as.
-  module _ {start end : ℕ} (N : Next text place start end) (h : start < length text)
-      {r : Literal} (e : r ≡ literal_in (bytes_between text start end)) where
+  -- A word is found.
+  module _ {start end : ℕ} (N : NextWord text place start end) where
     long : start + length (bytes_between text start end) ≡ end
     long =
-        let S = N.some h in
+        let S = N.some in
         let t = length-take-le (end - start) (drop start text) (omega (arith, S.fits, length-drop start text)) in
         omega (arith, t, S.long)
 
-    is_literal : {b : Bool} → r.fits ≡ b → literal_word (bytes_between text start end) ≡ b
-    is_literal f = ap (λ (x : Literal). x.fits) (sym e) ∙ f
-
-    literal_is : r.fits ≡ true → r.literal ≡ literal_of (bytes_between text start end)
-    literal_is f = ap (λ (x : Literal). x.literal) e ∙ rw (is_literal f)
-
     here : literals_at text at ≡ literals_of (length text) R.kept ((word_there text start end) ∷ words_at text end)
-    here = R.goes_on ∙ ap (literals_of (length text) R.kept) (N.some h).words
+    here = R.goes_on ∙ ap (literals_of (length text) R.kept) N.some.words
 
     stopped : (number : ℕ) → literals_at text at ≡ stop_at number (word_there text start end) R.kept (words_at text end)
         → Reads text at room₀ number start count end room
     stopped number f =
-        let S = N.some h in
+        let S = N.some in
         let x : ReadLiterals = record { number = number; position = start; literals = R.kept; next = end; rest = words_at text end } in
         let g : literals_at text at ≡ x =
         f ∙ ap (λ n. record { number = number; position = start; literals = R.kept; next = n; rest = words_at text end }) long in
         answered x g refl refl S.fits (λ k. omega (arith, S.onward, S.long, R.few)) (λ k. omega (arith, S.onward, S.long, R.few))
 
-    pub stopped_by_word : r.fits ≡ false → Reads text at room₀ 31 start count end room
-    stopped_by_word f = stopped 31 (here ∙ no_literal (length text) R.kept (word_there text start end) (words_at text end) (is_literal f))
+    pub stopped_by_word : None ≡ literal_in (bytes_between text start end) → Reads text at room₀ 31 start count end room
+    stopped_by_word e =
+        stopped 31 (here ∙ no_literal (length text) R.kept (word_there text start end) (words_at text end) (none_picked _ _ e))
 
-    pub stopped_by_zero : r.fits ≡ true → r.literal ≡ pos 0 → Reads text at room₀ 0 start count end room
-    stopped_by_zero f z =
-        let size = zero_word (bytes_between text start end) (sym (literal_is f) ∙ z) in
-        stopped 0 (here ∙ zero_ends (length text) R.kept (word_there text start end) (words_at text end) (is_literal f) size)
+    -- It is a literal, or the 0.
+    module _ {l : ℤ} (e : Some l ≡ literal_in (bytes_between text start end)) where
+      is : (literal_word (bytes_between text start end) ≡ true) × (literal_of (bytes_between text start end) ≡ l)
+      is = cond_some (literal_word (bytes_between text start end)) (literal_of (bytes_between text start end)) l (sym e)
 
-    pub read_more : r.fits ≡ true → (r.literal ≡ pos 0 → ⊥) → {room' : List ℤ} → room' ≡ set room count r.literal
-        → Reading text at room₀ room' end (count + 1)
-    read_more f n s =
-        let S = N.some h in
-        let some = some_word (bytes_between text start end) (is_literal f) (λ z. n (literal_is f ∙ z)) in
-        let l = literal_of (bytes_between text start end) in
-        record {
-          kept = R.kept ++ (l ∷ []);
-          counted = rw length-append (ap (λ n. n + 1) R.counted);
-          stored = s ∙ rw (R.stored, R.counted, literal_is f) (sym (sets_end room₀ R.kept l));
-          goes_on = here ∙ one_more (length text) R.kept (word_there text start end) (words_at text end) (is_literal f) some;
-          few = omega (arith, S.onward, S.long, R.few);
-        }
+      pub stopped_by_zero : l ≡ pos 0 → Reads text at room₀ 0 start count end room
+      stopped_by_zero z =
+          let size = zero_word (bytes_between text start end) (is.1 ∙ z) in
+          stopped 0 (here ∙ zero_ends (length text) R.kept (word_there text start end) (words_at text end) is.0 size)
+
+      pub read_more : (l ≡ pos 0 → ⊥) → {room' : List ℤ} → room' ≡ set room count l → Reading text at room₀ room' end (count + 1)
+      read_more n s =
+          let S = N.some in
+          let some = some_word (bytes_between text start end) is.0 (λ z. n (sym is.1 ∙ z)) in
+          let x = literal_of (bytes_between text start end) in
+          record {
+            kept = R.kept ++ (x ∷ []);
+            counted = rw length-append (ap (λ n. n + 1) R.counted);
+            stored = s ∙ rw (R.stored, R.counted, ← is.1) (sym (sets_end room₀ R.kept x));
+            goes_on = here ∙ one_more (length text) R.kept (word_there text start end) (words_at text end) is.0 some;
+            few = omega (arith, S.onward, S.long, R.few);
+          }

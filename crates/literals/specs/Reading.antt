@@ -1,9 +1,12 @@
 -- The literals of a clause in a text, from behind its weight on, and what reading them answers and leaves.
-use Rattle.std.specs.Prelude.{◌≡◌, not, List, [], ◌∷◌, ◌++◌, ℕ, ◌+◌, ◌≤◌, ◌<◌, eqb, ℤ, length}
+use Rattle.std.specs.Prelude.{◌≡◌, not, List, [], ◌∷◌, ◌++◌, ℕ, ◌+◌, ◌≤◌, ◌<◌, eqb, ℤ, length, Result, Ok, Err}
 use Rattle.std.proofs.lemmas.List.Edits.{sets}
 use Rattle.paper.specs.Clauses.{Clause, pick}
 use Rattle.paper.specs.Texts.{Word, value, unsigned, literal_word, literal_of}
+use Rattle.paper.specs.Reasons.{reason_number}
 use Rattle.words.specs.Words.{words_at}
+use Rattle.literals.specs.declared.Stop.{Stop}
+use Rattle.literals.specs.declared.Fault.{Fault}
 
 -- Where the reading of a clause's literals stops, and what was read till then: at its 0, at a word that is no literal, or at the
 -- text's end.
@@ -50,3 +53,12 @@ pub record Reads (text : List ℕ) (at : ℕ) (room : List ℤ) (number position
   pub within : next ≤ length text
   pub onward : at ≤ length text → at ≤ next
   pub further : number ≡ 0 → at < next
+
+-- What a reading answers, in the words of the paper: 0 where it came to the clause's 0, and else the reason's number.
+abbrev pub number_of : Result Stop Fault → ℕ
+number_of (Ok stop) = 0
+number_of (Err fault) = reason_number fault.reason
+
+abbrev pub stop_of : Result Stop Fault → Stop
+stop_of (Ok stop) = stop
+stop_of (Err fault) = fault.stop

@@ -2,33 +2,30 @@
 #![tactic(auto)]
 
 ghost use Rattle.std.specs.Prelude.{◌≡◌, set};
-ghost use Rattle.literals.specs.Reading.{Reads};
+ghost use Rattle.literals.specs.Reading.{Reads, number_of, stop_of};
+
+use paper::Reason;
 
 // Where the reading of a clause's literals stops.
-#[derive(Clone, Copy)]
-pub struct Literals {
-    // 0 at the clause's 0, 31 at a word that is no literal, 32 at the text's end
-    pub number: u32,
+#[derive(Clone, Copy, PartialEq, Eq)]
+pub struct Stop {
     // of the word that stopped it, or the text's length
     pub position: usize,
-    // how many literals stand before
+    // how many literals stand before, with those that the room has no place for, as `Reads` has it
     pub count: usize,
     // where that word ends, or the text's length
     pub next: usize,
 }
 
-fn stopped(number: u32, position: usize, count: usize, next: usize) -> Literals
-    ensures { result ≡ record { number = number; position = position; count = count; next = next } }
-{
-    Literals {
-        number: number,
-        position: position,
-        count: count,
-        next: next,
-    }
+// A clause without its 0: there is a word that is no literal, or the text ends.
+#[derive(Clone, Copy, PartialEq, Eq)]
+pub struct Fault {
+    pub reason: Reason,
+    pub stop: Stop,
 }
 
-// More literals than the room has are counted by the caller, and not kept.
+// More literals than the room has are counted by the caller, and not kept. An index test, since after a slice's `get_mut` a proof knows
+// only the length.
 fn keep(room: &mut [i32], count: usize, literal: i32)
     ensures { room.new ≡ set room.old count literal }
 {
@@ -38,28 +35,38 @@ fn keep(room: &mut [i32], count: usize, literal: i32)
 }
 
 // Past the text's end there are no words.
-pub fn read_literals(text: &[u8], at: usize, room: &mut [i32]) -> Literals
-    ensures { Reads text.now at room.old result.number result.position result.count result.next
-        room.new }
+pub fn read_literals(text: &[u8], at: usize, room: &mut [i32]) -> Result<Stop, Fault>
+    ensures { Reads text.now at room.old (number_of result) (stop_of result).position (stop_of result).count
+        (stop_of result).next room.new }
 {
     let mut place = at;
     let mut count: usize = 0;
-    loop {
-        let found = words::next_word(text, place);
-        let start = found.start;
-        let end = found.end;
-        if text.len() <= start {
-            return stopped(32, text.len(), count, text.len());
+    while let Some(found) = words::next_word(text, place) {
+        let stop = Stop {
+            position: found.start,
+            count,
+            next: found.end,
+        };
+        let Some(literal) = numerals::read_literal(&text[found.start..found.end]) else {
+            return Err(Fault {
+                reason: Reason::NoNumber,
+                stop,
+            });
+        };
+        if literal == 0 {
+            return Ok(stop);
         }
-        let read = numerals::read_literal(&text[start..end]);
-        if !read.fits {
-            return stopped(31, start, count, end);
-        }
-        if read.literal == 0 {
-            return stopped(0, start, count, end);
-        }
-        keep(room, count, read.literal);
+        keep(room, count, literal);
         count += 1;
-        place = end;
+        place = found.end;
     }
+    let end = text.len();
+    Err(Fault {
+        reason: Reason::CutShort,
+        stop: Stop {
+            position: end,
+            count,
+            next: end,
+        },
+    })
 }

@@ -1,16 +1,18 @@
 -- Marks that are taken away again, and what fresh marks tell of a clause whose variables have a place in a room of zeros.
 use mathlib.Core.Path.{◌≡◌, refl, sym, ap, ◌∙◌}
 use mathlib.Core.Bool.{Bool, true, false, not, ◌&&◌, ◌||◌, not-not, and-true, and-false}
-use mathlib.Core.List.{List, [], ◌∷◌}
+use mathlib.Core.List.{List, [], ◌∷◌, ◌++◌}
 use mathlib.Core.Logic.{◌≢◌}
 use Prim.Native.Nat.{ℕ, zero, suc, ◌+◌, ◌-◌, ◌<◌, ◌≤◌}
 use native.Mathlib.Numerals.{add-one}
 use native.Mathlib.Omega.{arith}
 use lib.Dec.{eqb, leb}
 use lib.IntN.{ℤ, pos}
-use lib.ListN.{length, drop, get_or, set, replicate, length-set, length-replicate}
-use lib.Seq.{drop-cons, drop-length, get_or-set_same, get_or-set_other}
-use borrow.Author.Tests.{ne_eqb, eqb-true, eqb-false, ltb-true, lt-ltb, leb-true}
+use lib.ListN.{length, take, drop, get_or, get_or-append, set, replicate, length-set, length-replicate}
+use lib.Seq.{drop-cons, get_or-set_same, get_or-set_other}
+use Rattle.std.specs.List.{slice_range}
+use Rattle.std.proofs.lemmas.List.{length-take-le, take-append-drop, length_push, get_or_push}
+use borrow.Author.Tests.{eqb-true, eqb-false, ltb-true, lt-ltb, leb-true}
 use Rattle.paper.specs.Clauses.{Clause, variable, every, has_variable, variable_twice}
 use Rattle.paper.specs.Session.{problem_literal}
 use Rattle.paper.specs.Derivation.{unassigned, assign}
@@ -32,17 +34,30 @@ module _ (room : List ℕ) (c : Clause) (i : ℕ) where
       → fresh (set room v 1) (drop (i + 1) c) ≡ fresh room (drop i c)
   fresh_more v e h z = rw (drop-cons c i (pos 0), add-one, ← e, z)
 
-  pub fresh_stops : (v : ℕ) → v ≡ variable (get_or c i (pos 0)) → i < length c → (get_or room v 0 ≡ 0 → ⊥)
-      → fresh room (drop i c) ≡ false
-  fresh_stops v e h z = rw (drop-cons c i (pos 0), ← e, ne_eqb (get_or room v 0) 0 z)
+-- What stands behind the first so many does not show.
+unmarked_front : (room : List ℕ) (xs ys : Clause) (i : ℕ) → i ≤ length xs → unmarked room (xs ++ ys) i ≡ unmarked room xs i
+unmarked_front room xs ys zero h = refl
+unmarked_front room xs ys (suc i) h =
+    rw (get_or-append xs ys (pos 0) i (omega arith))
+    (unmarked_front (set room (variable (get_or xs i (pos 0))) 0) xs ys i (omega arith))
 
-  pub fresh_ends : i ≡ length c → fresh room (drop i c) ≡ true
-  fresh_ends e = rw (e, drop-length)
+-- The first so many by themselves.
+pub unmarked_part : (room : List ℕ) (c : Clause) (i : ℕ) (part : Clause) → part ≡ slice_range c 0 i → i ≤ length c
+    → unmarked room part (length part) ≡ unmarked room c i
+unmarked_part room c i part e h =
+    let long = length-take-le i c h in
+    let none : i - 0 ≡ i = omega arith in
+    let front = unmarked_front room (take i c) (drop i c) i (omega arith) in
+    rw (e, none, long) (sym (rw (take-append-drop i c) at front))
 
-pub unmarked_less : (room : List ℕ) (c : Clause) (i : ℕ) → 0 < i
-    → unmarked (set room (variable (get_or c (i - 1) (pos 0))) 0) c (i - 1) ≡ unmarked room c i
-unmarked_less room c zero h = absurd (omega arith)
-unmarked_less room c (suc i) h = let e : suc i - 1 ≡ i = omega arith in rw e
+-- The last one is taken away first.
+pub unmarked_last : (room after : List ℕ) (c left : Clause) (l : ℤ) → c ≡ left ++ (l ∷ []) → after ≡ set room (variable l) 0
+    → unmarked after left (length left) ≡ unmarked room c (length c)
+unmarked_last room after c left l e f =
+    let back : set room (variable (get_or (left ++ (l ∷ [])) (length left) (pos 0))) 0 ≡ after
+    = rw (get_or_push left l (pos 0) (length left) refl) (sym f) in
+    rw (e, length_push left l, add-one)
+    (sym (ap (λ (w : List ℕ). unmarked w (left ++ (l ∷ [])) (length left)) back ∙ unmarked_front after left (l ∷ []) (length left) (omega arith)))
 
 -- What is noted from a place on does not show below it.
 unmarked_below : (room : List ℕ) (trail : Clause) (k : ℕ) (l : ℤ) (i : ℕ) → i ≤ k

@@ -2,20 +2,19 @@
 // by the stride, and its place there the remainder.
 #![tactic(auto)]
 
-ghost use Rattle.std.specs.Prelude.{◌≡◌, List, ◌++◌, ◌/◌, ◌%◌, ℤ};
+ghost use Rattle.std.specs.Prelude.{◌≡◌, List, ◌/◌, ◌%◌, ℤ};
 ghost use Rattle.paper.specs.Clauses.{every};
 ghost use Rattle.paper.specs.Session.{Session, tally_of, named_literal, hint_in, hint_named};
 ghost use Rattle.paper.specs.Steps.{admission};
 ghost use Rattle.paper.specs.Runs.{Reached};
+ghost use Rattle.paper.specs.Reasons.{refusal_number};
 ghost use Rattle.clauses.specs.Lowest.{lowest};
+ghost use Rattle.values.specs.Lent.{bytes, KeptValues};
 ghost use Rattle.rooms.specs.Held.{HeldCounters, Zeros};
-ghost use Rattle.names.specs.Names.{in_counter};
+ghost use Rattle.names.specs.Names.{in_counter, said};
 
-use paper::{Tally, Width};
-
-const FIRST_WISH: u32 = 2001;
-
-const FIRST_COUNTER: u32 = 4001;
+use paper::{FIRST_COUNTER, FIRST_WISH, Reason, Tally, Width};
+use values::ValueRooms;
 
 // The counter variable that stands so far past the first counter's first. An absent counter has no inputs in its room, and so no
 // variables: its number needs no test.
@@ -39,10 +38,7 @@ fn named(width: Width, tally: Tally, counter_ends: &[u32], literal: i32) -> bool
 {
     let variable = variables::variable_of(literal);
     if variable < FIRST_WISH {
-        if variable < 1 {
-            return false;
-        }
-        return variable <= tally.variables;
+        return 1 <= variable && variable <= tally.variables;
     }
     if variable < FIRST_COUNTER {
         return variable - FIRST_WISH < tally.wishes;
@@ -50,49 +46,57 @@ fn named(width: Width, tally: Tally, counter_ends: &[u32], literal: i32) -> bool
     in_counter(width, counter_ends, variable - FIRST_COUNTER)
 }
 
+// No `all`: what its closure promises leaves out what `named` says.
 fn all_named(width: Width, tally: Tally, counter_ends: &[u32], clause: &[i32]) -> bool
     ensures { (s : Session) (inputs : List ℤ) → Reached s → width ≡ s.sheet.width → tally ≡ tally_of s
         → HeldCounters inputs counter_ends.now s
         → result ≡ every (named_literal s.sheet s.work) clause.now }
 {
-    let mut i: usize = 0;
-    while i < clause.len() {
-        let literal = clause[i];
-        if !named(width, tally, counter_ends, literal) {
+    for literal in clause {
+        if !named(width, tally, counter_ends, *literal) {
             return false;
         }
-        i += 1;
     }
     true
 }
 
-// The lowest of 16, 17 and 18 that applies to a derived clause; 0 where none does.
+// The lowest of the three refusals that applies to a derived clause, if one does.
 pub fn named_refusal(
     width: Width,
     tally: Tally,
     counter_ends: &[u32],
     clause: &[i32],
-    low: &mut [u8],
-    high: &mut [u8],
-) -> u32
-    ensures kept { (low.new ≡ low.old) × (high.new ≡ high.old) }
+    values: &mut ValueRooms,
+) -> Result<(), Reason>
+    ensures kept { KeptValues values.old values.new }
     ensures answer { (s : Session) (inputs : List ℤ) → Reached s → width ≡ s.sheet.width → tally ≡ tally_of s
-        → HeldCounters inputs counter_ends.now s → Zeros s.sheet.width (low.old ++ high.old)
-        → result ≡ lowest (admission s.sheet.width (named_literal s.sheet s.work) clause.now) }
+        → HeldCounters inputs counter_ends.now s → Zeros s.sheet.width (bytes values.old)
+        → refusal_number result ≡ lowest (admission s.sheet.width (named_literal s.sheet s.work) clause.now) }
 {
     if (width.literals as usize) < clause.len() {
-        return 16;
+        return Err(Reason::TooManyLiterals);
     }
     if !all_named(width, tally, counter_ends, clause) {
-        return 17;
+        return Err(Reason::StrangeLiteral);
     }
-    if !marks::distinct(clause, low, high) {
-        return 18;
+    if !marks::distinct(clause, values) {
+        return Err(Reason::VariableTwice);
     }
-    0
+    Ok(())
 }
 
-// The parts of a hint.
+// The clause that a hint names, by its number; before a counter's clause stands the counter's own number. A hint of another family,
+// or with a first number where none belongs, names nothing.
+#[derive(Clone, Copy, PartialEq, Eq)]
+pub enum Hint {
+    Rule(u32),
+    Wish(u32),
+    Counter(u32, u32),
+    Derived(u32),
+    Nothing,
+}
+
+// The parts of a hint, from the lowest bytes on.
 #[derive(Clone, Copy)]
 pub struct Parts {
     pub family: u32,
@@ -110,46 +114,47 @@ pub fn parts_of(hint: u64) -> Parts
     }
 }
 
-fn hint_named(tally: Tally, counter_ends: &[u32], hint: u64) -> bool
-    ensures { (s : Session) (inputs : List ℤ) → Reached s → tally ≡ tally_of s
-        → HeldCounters inputs counter_ends.now s → result ≡ hint_named s.sheet s.work (hint_in hint) }
-{
-    let parts = parts_of(hint);
-    let family = parts.family;
-    let first = parts.first;
-    let second = parts.second;
-    if family == 3 {
-        let inputs = clauses::size_of(counter_ends, first);
-        return (second as usize) < tables::clauses_of(inputs);
+impl From<u64> for Hint {
+    ghost from_gives = { λ word given. said given ≡ hint_in word };
+
+    fn from(word: u64) -> Hint {
+        let parts = parts_of(word);
+        match (parts.family, parts.first) {
+            (1, 0) => Hint::Rule(parts.second),
+            (2, 0) => Hint::Wish(parts.second),
+            (3, first) => Hint::Counter(first, parts.second),
+            (4, 0) => Hint::Derived(parts.second),
+            _ => Hint::Nothing,
+        }
     }
-    if 0 < first {
-        return false;
-    }
-    if family == 1 {
-        return second < tally.rules;
-    }
-    if family == 2 {
-        return second < tally.wishes;
-    }
-    if family == 4 {
-        return second < tally.derived;
-    }
-    false
 }
 
-// Every hint names a clause; else 19.
+fn hint_named(tally: Tally, counter_ends: &[u32], hint: Hint) -> bool
+    ensures { (s : Session) (inputs : List ℤ) → Reached s → tally ≡ tally_of s
+        → HeldCounters inputs counter_ends.now s → result ≡ hint_named s.sheet s.work (said hint) }
+{
+    match hint {
+        Hint::Rule(number) => number < tally.rules,
+        Hint::Wish(number) => number < tally.wishes,
+        Hint::Counter(counter, number) => {
+            let inputs = clauses::size_of(counter_ends, counter);
+            (number as usize) < tables::clauses_of(inputs)
+        }
+        Hint::Derived(number) => number < tally.derived,
+        Hint::Nothing => false,
+    }
+}
+
+// Every hint names a clause. No `all`, as above.
 pub fn all_hints_named(tally: Tally, counter_ends: &[u32], hints: &[u64]) -> bool
     ensures { (s : Session) (inputs : List ℤ) → Reached s → tally ≡ tally_of s
         → HeldCounters inputs counter_ends.now s
         → result ≡ every (λ word. hint_named s.sheet s.work (hint_in word)) hints.now }
 {
-    let mut i: usize = 0;
-    while i < hints.len() {
-        let hint = hints[i];
-        if !hint_named(tally, counter_ends, hint) {
+    for word in hints {
+        if !hint_named(tally, counter_ends, Hint::from(*word)) {
             return false;
         }
-        i += 1;
     }
     true
 }

@@ -1,5 +1,5 @@
 -- A word read digit by digit: what is still to come decides as the whole does.
-use Rattle.std.proofs.Common.{◌≡◌, false, ap, ◌∙◌, List, [], ◌∷◌, ℕ, suc, ◌+◌, ◌*◌, ◌-◌, ◌<◌, ◌≤◌, length, drop, get_or, drop-cons, arith}
+use Rattle.std.proofs.Common.{◌≡◌, ap, ◌∙◌, List, [], ◌∷◌, ℕ, suc, ◌+◌, ◌*◌, ◌-◌, ◌<◌, ◌≤◌, length, drop, get_or, drop-cons, arith, None}
 use Rattle.std.proofs.lemmas.Grind.{common_steps}
 use borrow.Author.Tests.{lt-leb}
 use Rattle.paper.specs.Clauses.{every}
@@ -20,7 +20,7 @@ pub record Read (word : List ℕ) (most v i : ℕ) : Type 0 where
 
 -- One digit more, and the value is too large: so is that of the whole word.
 pub too_large : (word : List ℕ) (most v i : ℕ) → Read word most v i → i < length word → most < 10 * v + (get_or word i 0 - 48)
-    → record { fits = false; value = 0 } ≡ numeral_of most word
+    → None ≡ numeral_of most word
 too_large word most v i k h l =
     let next : value word ≡ value_from (10 * v + (get_or word i 0 - 48)) (drop (suc i) word) =
     k.values ∙ ap (value_from v) (drop-cons word i 0 h) in

@@ -5,10 +5,11 @@
 ghost use Rattle.std.specs.Prelude.{◌≡◌};
 ghost use Rattle.paper.specs.Sizes.{narrow};
 ghost use Rattle.paper.specs.Session.{Session, tally_of};
+ghost use Rattle.paper.specs.Reasons.{reason_number};
 ghost use Rattle.paper.specs.Steps.{opening, outcome};
 ghost use Rattle.paper.specs.Runs.{Reached};
 
-use paper::{Answer, Outcome, Tally, Width};
+use paper::{Answer, Outcome, Reason, Tally, Width};
 
 // The width that a tally was opened with. There is one kind of opening so far.
 pub fn width_of(_tally: Tally) -> Width
@@ -26,31 +27,31 @@ pub fn refused(tally: Tally, number: u32) -> Outcome
     ensures { result ≡ record { tally = tally; answer = Answer.Refused number } }
 {
     Outcome {
-        tally: tally,
+        tally,
         answer: Answer::Refused(number),
     }
+}
+
+// A refusal for a reason.
+pub fn refuse(tally: Tally, reason: Reason) -> Outcome
+    ensures { result ≡ record { tally = tally; answer = Answer.Refused (reason_number reason) } }
+{
+    refused(tally, reason.number())
 }
 
 pub fn open_session(tally: Tally, variables: u32) -> Outcome
     ensures { (s : Session) → Reached s → tally ≡ tally_of s → result ≡ outcome s (opening variables) }
 {
     if 0 < tally.variables {
-        return refused(tally, 12);
+        return refuse(tally, Reason::OutOfTurn);
     }
-    if variables < 1 {
-        return refused(tally, 14);
-    }
-    if 2000 < variables {
-        return refused(tally, 14);
+    if variables < 1 || 2000 < variables {
+        return refuse(tally, Reason::WrongVariables);
     }
     Outcome {
         tally: Tally {
-            variables: variables,
-            rules: 0,
-            wishes: 0,
-            derived: 0,
-            counters: 0,
-            bound: 0,
+            variables,
+            ..Tally::default()
         },
         answer: Answer::Opened(variables),
     }

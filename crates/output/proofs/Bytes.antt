@@ -1,14 +1,17 @@
 -- Literals as bytes, how long the records are, and where one is put.
 use mathlib.Core.Path.{◌≡◌, refl, sym, ◌∙◌, ap}
 use mathlib.Core.Bool.{Bool, true, false}
-use mathlib.Core.List.{List, [], ◌∷◌, ◌++◌}
+use mathlib.Core.List.{List, [], ◌∷◌, ◌++◌, append_assoc}
 use Prim.Native.Nat.{ℕ, ◌+◌, ◌*◌, ◌≤◌, ◌<◌}
 use native.Mathlib.Numerals.{add-one}
 use native.Mathlib.Omega.{arith}
 use lib.Dec.{leb}
-use lib.IntN.{ℤ, pos}
+use lib.IntN.{ℤ, pos, negsuc}
 use lib.ListN.{length, take, get_or}
-use lib.Seq.{take-suc, length-take-le, length-sets}
+use lib.Seq.{sets, sets-eq, drop-drop, take-suc, length-take-le, length-sets}
+use borrow.Rule.Slice.PartMut.{put_mid}
+use Rattle.std.specs.Int.{to_le_bytes, cast_unsigned, w32, w64}
+use Rattle.std.proofs.Math.Nat.{div-div-eq-div-mul}
 use borrow.Author.Tests.{leb-true, leb-false}
 use Rattle.paper.specs.Clauses.{Clause}
 use Rattle.paper.specs.Texts.{bytes_for, bits_of, literal_bytes, record_bytes}
@@ -16,7 +19,21 @@ use Rattle.lines.specs.Lines.{Written}
 use Rattle.lines.proofs.Lines.{written-append}
 use Rattle.output.specs.Puts.{Put, rule_record, wish_record}
 
+-- ── Numbers ──
+
+pub low_four : (n : ℕ) → take 4 (to_le_bytes w64 n) ≡ bytes_for 4 n
+low_four n = rw (div-div-eq-div-mul n 256 256, div-div-eq-div-mul n 65536 256)
+
+-- Bytes that are copied over as many are stored one after the other.
+pub copied : (room : List ℕ) (at k : ℕ) (bytes part : List ℕ) → part ≡ bytes → k ≡ length bytes → at + length bytes ≤ length room
+    → put_mid at k room part ≡ sets room at bytes
+copied room at k bytes part e n h = rw (e, n, sets-eq bytes room at h, drop-drop, append_assoc)
+
 -- ── Literals ──
+
+unsigned_is : (l : ℤ) → cast_unsigned w32 l ≡ bits_of l
+unsigned_is (pos v) = refl
+unsigned_is (negsuc v) = omega arith
 
 literals_snoc : (c : Clause) (l : ℤ) → literal_bytes (c ++ (l ∷ [])) ≡ literal_bytes c ++ bytes_for 4 (bits_of l)
 literals_snoc [] l = refl
@@ -41,13 +58,13 @@ module _ {room₀ : List ℕ} {at : ℕ} {c : Clause} {room : List ℕ} {place i
   copied_place =
       omega (arith, C.within, C.written.ends, length_literals (take i c), length-take-le i c C.within)
 
-  pub copied_more : i < length c → {bits next : ℕ} {room' : List ℕ} → bits ≡ bits_of (get_or c i (pos 0))
-      → Written room place (bytes_for 4 bits) next room' → Copying room₀ at c room' next (i + 1)
-  copied_more h {bits} e w =
+  pub copied_more : i < length c → {next : ℕ} {room' : List ℕ}
+      → Written room place (bytes_for 4 (cast_unsigned w32 (get_or c i (pos 0)))) next room' → Copying room₀ at c room' next (i + 1)
+  copied_more h w =
       record {
         within = omega arith;
-        same_length = ap length w.bytes ∙ length-sets room place (bytes_for 4 bits) ∙ C.same_length;
-        written = rw (literals_more c i h) (written-append C.written (rw e at w));
+        same_length = ap length w.bytes ∙ length-sets room place (bytes_for 4 (cast_unsigned w32 (get_or c i (pos 0)))) ∙ C.same_length;
+        written = rw (literals_more c i h) (written-append C.written (rw unsigned_is at w));
       }
 
 -- ── Records ──

@@ -1,13 +1,13 @@
 -- A room that is filled from its front, and cleared behind.
 use mathlib.Core.Path.{◌≡◌, refl, ◌∙◌, ap}
 use mathlib.Core.Bool.{Bool, true, false}
-use mathlib.Core.List.{List, [], ◌++◌, append_assoc}
-use Prim.Native.Nat.{ℕ, suc, ◌+◌, ◌-◌, ◌≤◌, ◌<◌}
-use native.Mathlib.Numerals.{add-one}
+use mathlib.Core.List.{List, [], ◌++◌, append-nil}
+use Prim.Native.Nat.{ℕ, suc, ◌+◌, ◌-◌, ◌≤◌, ◌<◌, min}
 use native.Mathlib.Omega.{arith}
 use lib.Dec.{leb}
-use lib.ListN.{length, take, drop, set, replicate, length-append, length-set}
-use lib.Seq.{sets, sets-eq, length-sets, take-append_seam, take-suc-set}
+use lib.ListN.{length, take, drop, replicate, length-append, drop_of_length-le}
+use lib.Seq.{sets, sets-eq, drop-drop, length-sets, take-append_seam, take_all}
+use borrow.Rule.Slice.PartMut.{put_mid}
 use borrow.Author.Tests.{leb-true, leb-false, le-ltb}
 use Rattle.paper.specs.Texts.{filled}
 use Rattle.lines.specs.Lines.{Written}
@@ -16,19 +16,32 @@ use Rattle.output.specs.Puts.{Put, Puts}
 
 -- ── Clearing ──
 
--- What is cleared up to place i, with zeros for what is still to come, is the whole.
-pub record Clearing (room₀ : List ℕ) (at : ℕ) (room : List ℕ) (i : ℕ) : Type 0 where
-  pub same_length : length room ≡ length room₀
-  pub whole : take i room ++ replicate (length room₀ - i) 0 ≡ take at room₀ ++ replicate (length room₀ - at) 0
+by_place : {A : Type 0} (size room : ℕ) → (size ≤ room → A) → (room < size → A) → A
+by_place {A} size room fits past = go (leb size room) (λ e. fits (leb-true size room e)) (λ e. past (leb-false size room e))
+  where
+    go : (b : Bool) → (b ≡ true → A) → (b ≡ false → A) → A
+    go true f g = f refl
+    go false f g = g refl
 
-pub cleared_more : {room₀ : List ℕ} {at : ℕ} {room : List ℕ} {i : ℕ} → Clearing room₀ at room i → i < length room
-    → Clearing room₀ at (set room i 0) (i + 1)
-cleared_more {room₀} {at} {room} {i} C h =
-    let one : length room₀ - i ≡ suc (length room₀ - suc i) = omega (arith, C.same_length) in
-    record {
-      same_length = length-set room i 0 ∙ C.same_length;
-      whole = rw (add-one, take-suc-set room i 0 h, append_assoc) (rw one at C.whole);
-    }
+cut_behind : (room : List ℕ) (from : ℕ) (part : List ℕ) → from ≤ length room
+    → put_mid from (length room - from) room part ≡ take from room ++ part
+cut_behind room from part h =
+    let none : drop (from + (length room - from)) room ≡ [] = drop_of_length-le room (omega arith) in
+    rw (drop-drop, none, append-nil)
+
+pub cleared : (room : List ℕ) (at from : ℕ) (part : List ℕ) → from ≡ min at (length room) → part ≡ replicate (length room - from) 0
+    → put_mid from (length room - from) room part ≡ take at room ++ replicate (length room - at) 0
+cleared room at from part e f = cut_behind room from part (omega (arith, e)) ∙ by_place at (length room) inside past
+  where
+    inside : at ≤ length room → take from room ++ part ≡ take at room ++ replicate (length room - at) 0
+    inside h = let same : from ≡ at = omega (arith, e) in rw (f, same)
+
+    past : length room < at → take from room ++ part ≡ take at room ++ replicate (length room - at) 0
+    past h =
+        let all : from ≡ length room = omega (arith, e) in
+        let none : length room - length room ≡ 0 = omega arith in
+        let none_left : length room - at ≡ 0 = omega arith in
+        rw (f, all, none, none_left, take_all (length room) room (omega arith), take_all at room (omega arith))
 
 -- ── Filling ──
 
@@ -38,13 +51,6 @@ sets_front room bytes h = let e : 0 + length bytes ≡ length bytes = omega arit
 pub puts_none : (room : List ℕ) → Puts room [] 0 room
 puts_none room =
     record { same_length = refl; fits = λ h. record { bytes = refl; ends = refl }; past = λ h. absurd (omega arith) }
-
-by_place : {A : Type 0} (size room : ℕ) → (size ≤ room → A) → (room < size → A) → A
-by_place {A} size room fits past = go (leb size room) (λ e. fits (leb-true size room e)) (λ e. past (leb-false size room e))
-  where
-    go : (b : Bool) → (b ≡ true → A) → (b ≡ false → A) → A
-    go true f g = f refl
-    go false f g = g refl
 
 pub put-length : {room : List ℕ} {at : ℕ} {bytes : List ℕ} {end : ℕ} {room' : List ℕ} → Put room at bytes end room' → length room' ≡ length room
 put-length {room} {at} {bytes} p =

@@ -1,6 +1,7 @@
 // Records as bytes in a lent room. A record is written where it fits as a whole. Else nothing is written, and the end that is
-// answered is one past the room: nothing fits from there on, so a caller that goes on from end to end needs no other sign. The
-// work is in proportion to the bytes written, each of which is stored once.
+// answered is one past the room: a place like any other, at which nothing fits. So a caller goes on from end to end, and looks once,
+// behind the last, whether all of it fitted; by an option it would look at each. The work is in proportion to the bytes written,
+// each of which is stored once.
 #![tactic(auto)]
 
 ghost use Rattle.std.specs.Prelude.{◌≡◌, ◌++◌, ◌+◌, ◌*◌, ◌-◌, ◌≤◌, leb, length, take, replicate};
@@ -12,25 +13,7 @@ ghost use Rattle.output.specs.Puts.{Put, rule_record, wish_record};
 fn has_place(room: usize, at: usize, bytes: usize, literals: usize) -> bool
     ensures { result ≡ leb (at + (bytes + 4 * literals)) room }
 {
-    if room < at {
-        return false;
-    }
-    let left = room - at;
-    if left < bytes {
-        return false;
-    }
-    literals <= (left - bytes) / 4
-}
-
-// The 32 bits count down from the highest number for the literals below 0.
-fn bits_of(literal: i32) -> u32
-    ensures { result ≡ bits_of literal }
-{
-    let variable = variables::variable_of(literal);
-    if variables::is_negative(literal) {
-        return 4294967295 - (variable - 1);
-    }
-    variable
+    at <= room && bytes <= room - at && literals <= (room - at - bytes) / 4
 }
 
 // The four low bytes of a number: a record's length is a number of 64 bits here, and nothing has to be asked of it.
@@ -38,11 +21,9 @@ fn put_four(out: &mut [u8], at: usize, number: u64) -> usize
     requires { at + 4 ≤ length out.old }
     ensures { Written out.old at (bytes_for 4 number) result out.new }
 {
-    out[at] = (number % 256) as u8;
-    out[at + 1] = (number / 256 % 256) as u8;
-    out[at + 2] = (number / 256 / 256 % 256) as u8;
-    out[at + 3] = (number / 256 / 256 / 256 % 256) as u8;
-    at + 4
+    let end = at + 4;
+    out[at..end].copy_from_slice(&number.to_le_bytes()[..4]);
+    end
 }
 
 // What a record begins with: the length of what follows it, and the kind, which is one byte and a 0.
@@ -61,12 +42,8 @@ fn put_literals(out: &mut [u8], at: usize, literals: &[i32]) -> usize
     ensures { Written out.old at (literal_bytes literals.now) result out.new }
 {
     let mut place = at;
-    let mut i: usize = 0;
-    while i < literals.len() {
-        let literal = literals[i];
-        let bits = bits_of(literal);
-        place = put_four(out, place, bits as u64);
-        i += 1;
+    for literal in literals {
+        place = put_four(out, place, u64::from(literal.cast_unsigned()));
     }
     place
 }
@@ -78,7 +55,7 @@ pub fn put_open(out: &mut [u8], at: usize, variables: u32) -> usize
         return out.len() + 1;
     }
     let place = put_start(out, at, 6, 1);
-    put_four(out, place, variables as u64)
+    put_four(out, place, u64::from(variables))
 }
 
 fn put_rule(out: &mut [u8], at: usize, literals: &[i32]) -> usize
@@ -98,7 +75,7 @@ fn put_wish(out: &mut [u8], at: usize, weight: u32, literals: &[i32]) -> usize
         return out.len() + 1;
     }
     let place = put_start(out, at, 6 + 4 * literals.len() as u64, 3);
-    let behind = put_four(out, place, weight as u64);
+    let behind = put_four(out, place, u64::from(weight));
     put_literals(out, behind, literals)
 }
 
@@ -107,18 +84,16 @@ pub fn put_clause(out: &mut [u8], at: usize, top: u32, weight: u32, literals: &[
         out.new }
 {
     if weight == top {
-        return put_rule(out, at, literals);
+        put_rule(out, at, literals)
+    } else {
+        put_wish(out, at, weight, literals)
     }
-    put_wish(out, at, weight, literals)
 }
 
 // Past the room's end there is nothing to clear.
 pub fn zero_from(out: &mut [u8], at: usize)
     ensures { out.new ≡ take at out.old ++ replicate (length out.old - at) 0 }
 {
-    let mut i = at;
-    while i < out.len() {
-        out[i] = 0;
-        i += 1;
-    }
+    let from = at.min(out.len());
+    out[from..].fill(0);
 }

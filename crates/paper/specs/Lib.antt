@@ -6,6 +6,7 @@ pub mod Session
 pub mod Truth
 pub mod Derivation
 pub mod Answers
+pub mod Reasons
 pub mod Steps
 pub mod Runs
 pub mod Records

@@ -1,6 +1,16 @@
 // The types that the definitions, the code over them and its readers share. Those that cross to C have its layout.
 #![tactic(auto)]
 
+ghost use Rattle.std.specs.Prelude.{◌≡◌};
+ghost use Rattle.paper.specs.Answers.{numbers};
+ghost use Rattle.paper.specs.Reasons.{reason_number};
+
+// The variable of wish 0; the others follow it.
+pub const FIRST_WISH: u32 = 2001;
+
+// Variable 0 of counter 0; the others follow it, a stride from one counter to the next.
+pub const FIRST_COUNTER: u32 = 4001;
+
 // The sizes that go with the kind of the opening record. They are one value, so that laws and code are stated over them.
 #[derive(Clone, Copy)]
 pub struct Width {
@@ -14,7 +24,7 @@ pub struct Width {
 
 // The counts of the four families and the bound, with n, which is 0 before the opening.
 #[repr(C)]
-#[derive(Clone, Copy)]
+#[derive(Clone, Copy, Default)]
 pub struct Tally {
     pub variables: u32,
     pub rules: u32,
@@ -43,8 +53,42 @@ pub enum Answer {
     Counted(u32, u32),
     // the lowest number of a rule that the arrangement breaks
     Broken(u32),
-    // any other refusal, by its number
+    // any other refusal, by its number and not by a `Reason`: every definition of an answer (`Answers`, `Steps`) is stated with it
     Refused(u32),
+}
+
+// Why a step or a text is refused, in the order of the numbers that refusals are given by. What each means stands at its number in
+// the description.
+#[derive(Clone, Copy, PartialEq, Eq)]
+pub enum Reason {
+    NoRecord = 10,
+    UnknownKind = 11,
+    OutOfTurn = 12,
+    WrongForm = 13,
+    WrongVariables = 14,
+    WrongWeight = 15,
+    TooManyLiterals = 16,
+    StrangeLiteral = 17,
+    VariableTwice = 18,
+    StrangeHint = 19,
+    NotShown = 20,
+    NoSuchClause = 21,
+    NoCore = 22,
+    NoRoom = 23,
+    BrokenRule = 24,
+    NoHeader = 30,
+    NoNumber = 31,
+    CutShort = 32,
+    WrongCount = 33,
+    ShortRoom = 34,
+}
+
+impl Reason {
+    pub fn number(self) -> u32
+        ensures { result ≡ reason_number self }
+    {
+        self as u32
+    }
 }
 
 // What an answer gives back: its number, and two values.
@@ -54,6 +98,36 @@ pub struct Numbers {
     pub number: u32,
     pub first: u32,
     pub second: u32,
+}
+
+impl Numbers {
+    fn give(number: u32, first: u32, second: u32) -> Numbers
+        ensures { result ≡ record { number = number; first = first; second = second } }
+    {
+        Numbers {
+            number,
+            first,
+            second,
+        }
+    }
+}
+
+impl From<Answer> for Numbers {
+    ghost from_gives = { λ answer given. given ≡ numbers answer };
+
+    fn from(answer: Answer) -> Numbers {
+        match answer {
+            Answer::Opened(variables) => Numbers::give(0, variables, 0),
+            Answer::Rule(number) => Numbers::give(0, number, 0),
+            Answer::Wish(number, variable) => Numbers::give(0, number, variable),
+            Answer::Derived(number, literals) => Numbers::give(0, number, literals),
+            Answer::Core(bound, weight) => Numbers::give(0, bound, weight),
+            Answer::Best(cost, bound) => Numbers::give(1, cost, bound),
+            Answer::Counted(cost, bound) => Numbers::give(0, cost, bound),
+            Answer::Broken(rule) => Numbers::give(24, rule, 0),
+            Answer::Refused(number) => Numbers::give(number, 0, 0),
+        }
+    }
 }
 
 // What stands at the front of some bytes of an input.
@@ -92,7 +166,7 @@ pub struct Header {
     pub top: u32,
 }
 
-// What reading a text answers.
+// What reading a text answers, with the layout that the C interface has: no `Result` goes there.
 #[repr(C)]
 #[derive(Clone, Copy)]
 pub struct TextAnswer {

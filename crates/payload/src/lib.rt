@@ -2,211 +2,219 @@
 // function is safe on bytes of any length and at any place; bytes that are missing count as zeros, as they do on paper.
 #![tactic(auto)]
 
-ghost use Rattle.std.specs.Prelude.{◌≡◌, ◌+◌, ◌*◌, ◌-◌, ◌^◌, ◌≤◌, ◌<◌, length, take, drop};
+ghost use Rattle.std.specs.Prelude.{◌≡◌, List, [], ◌∷◌, ℕ, suc, ◌++◌, ◌+◌, ◌*◌, ◌≤◌, ◌<◌, length, take, drop, replicate, refl};
+ghost use Rattle.std.proofs.Common.{rules};
 ghost use Rattle.paper.specs.Records.{number, numbers_in, signed, literals, arrangement_form};
+ghost use Rattle.payload.specs.Items.{padded_number, padded_literal};
 
-// How many bytes stand from a place on.
-fn left(bytes: &[u8], at: usize) -> usize
-    ensures { result ≡ length bytes.now - at }
-{
-    if bytes.len() < at {
-        return 0;
+// What stands in bytes in a row: `several` says what so many of them are, and `value` what the first one is.
+trait Item: Copy {
+    ghost SIZE: { ℕ };
+
+    ghost value: { List ℕ → Self };
+
+    ghost several: { ℕ → List ℕ → List Self };
+
+    // How many bytes an item takes.
+    const SIZE: usize;
+
+    // The item at the front of some bytes, all of which are there: one load, with no test between the bytes.
+    fn read(bytes: &[u8]) -> Self
+        requires { SIZE ≤ length bytes.now }
+        ensures { result ≡ value bytes.now };
+
+    ghost size_bound: { (0 < SIZE) × (SIZE ≤ 8) };
+
+    ghost none: { (bytes : List ℕ) → several 0 bytes ≡ [] };
+
+    ghost one_more: { (count : ℕ) (bytes : List ℕ) → several (suc count) bytes ≡ value bytes ∷ several count (drop SIZE bytes) };
+
+    // Bytes that are missing count as zeros.
+    ghost padded: { (bytes : List ℕ) (count : ℕ) → value (bytes ++ replicate count 0) ≡ value bytes };
+}
+
+impl Item for u16 {
+    ghost SIZE = { 2 };
+
+    ghost value = { λ bytes. number (take 2 bytes) };
+
+    ghost several = { numbers_in 2 };
+
+    const SIZE: usize = 2;
+
+    fn read(bytes: &[u8]) -> u16 {
+        u16::from_le_bytes([bytes[0], bytes[1]])
     }
-    bytes.len() - at
+
+    ghost size_bound = { Prim.search rules };
+
+    ghost none = { λ bytes. refl };
+
+    ghost one_more = { λ count bytes. refl };
+
+    ghost padded = { padded_number 2 };
 }
 
-// The place so many bytes on, or the end where there is no such place: nothing follows either.
-fn after(bytes: &[u8], at: usize, count: usize) -> usize
-    ensures { drop result bytes.now ≡ drop (at + count) bytes.now }
-{
-    if count <= left(bytes, at) {
-        return at + count;
+impl Item for u32 {
+    ghost SIZE = { 4 };
+
+    ghost value = { λ bytes. number (take 4 bytes) };
+
+    ghost several = { numbers_in 4 };
+
+    const SIZE: usize = 4;
+
+    fn read(bytes: &[u8]) -> u32 {
+        u32::from_le_bytes([bytes[0], bytes[1], bytes[2], bytes[3]])
     }
-    bytes.len()
+
+    ghost size_bound = { Prim.search rules };
+
+    ghost none = { λ bytes. refl };
+
+    ghost one_more = { λ count bytes. refl };
+
+    ghost padded = { padded_number 4 };
 }
 
-// A call, so that the byte's bound comes with it.
-fn wide(byte: u8) -> u32
-    ensures { (result ≡ byte) × (result < 256) }
-{
-    byte as u32
+impl Item for u64 {
+    ghost SIZE = { 8 };
+
+    ghost value = { λ bytes. number (take 8 bytes) };
+
+    ghost several = { numbers_in 8 };
+
+    const SIZE: usize = 8;
+
+    fn read(bytes: &[u8]) -> u64 {
+        u64::from_le_bytes([
+            bytes[0], bytes[1], bytes[2], bytes[3], bytes[4], bytes[5], bytes[6], bytes[7],
+        ])
+    }
+
+    ghost size_bound = { Prim.search rules };
+
+    ghost none = { λ bytes. refl };
+
+    ghost one_more = { λ count bytes. refl };
+
+    ghost padded = { padded_number 8 };
 }
 
-// The same for one half of 64 bits.
-fn half(part: u32) -> u64
-    ensures { (result ≡ part) × (result < 2 ^ 32) }
-{
-    part as u64
+impl Item for i32 {
+    ghost SIZE = { 4 };
+
+    ghost value = { λ bytes. signed (number (take 4 bytes)) };
+
+    ghost several = { literals };
+
+    const SIZE: usize = 4;
+
+    fn read(bytes: &[u8]) -> i32 {
+        of_bits(<u32 as Item>::read(bytes))
+    }
+
+    ghost size_bound = { Prim.search rules };
+
+    ghost none = { λ bytes. refl };
+
+    ghost one_more = { λ count bytes. refl };
+
+    ghost padded = { padded_literal };
 }
 
-// This and the two that follow are compiled to one load each: nothing is tested between the bytes.
-fn two_bytes(bytes: &[u8], at: usize) -> u32
-    requires { at + 2 ≤ length bytes.now }
-    ensures { (result ≡ number (take 2 (drop at bytes.now))) × (result < 65536) }
+pub fn of_bits(bits: u32) -> i32
+    ensures { result ≡ signed bits }
 {
-    let low = wide(bytes[at]);
-    let high = wide(bytes[at + 1]);
-    low + 256 * high
+    bits.cast_signed()
 }
 
-fn four_bytes(bytes: &[u8], at: usize) -> u32
-    requires { at + 4 ≤ length bytes.now }
-    ensures { result ≡ number (take 4 (drop at bytes.now)) }
+// What stands from a place on: nothing past the end. A part has places of its own: no sum of places is made, and so none can wrap.
+pub fn rest(bytes: &[u8], at: usize) -> &[u8]
+    ensures { result.now ≡ drop at bytes.now }
 {
-    two_bytes(bytes, at) + 65536 * two_bytes(bytes, at + 2)
+    &bytes[at.min(bytes.len())..]
 }
 
-fn eight_bytes(bytes: &[u8], at: usize) -> u64
-    requires { at + 8 ≤ length bytes.now }
-    ensures { result ≡ number (take 8 (drop at bytes.now)) }
+// The item at the front of some bytes, any of which may be missing.
+fn first<T: Item>(bytes: &[u8]) -> T
+    ensures { result ≡ T.value bytes.now }
 {
-    half(four_bytes(bytes, at)) + 4294967296 * half(four_bytes(bytes, at + 4))
+    if T::SIZE <= bytes.len() {
+        return T::read(bytes);
+    }
+    let mut padded = [0; 8];
+    padded[..bytes.len()].copy_from_slice(bytes);
+    T::read(&padded)
 }
 
 pub fn number_of_two(bytes: &[u8], at: usize) -> u32
     ensures { (result ≡ number (take 2 (drop at bytes.now))) × (result < 65536) }
 {
-    if 2 <= left(bytes, at) {
-        return two_bytes(bytes, at);
-    }
-    if at < bytes.len() {
-        return wide(bytes[at]);
-    }
-    0
-}
-
-// In two parts, either of which may be cut short.
-fn short_of_four(bytes: &[u8], at: usize) -> u32
-    ensures { result ≡ number (take 4 (drop at bytes.now)) }
-{
-    let place = after(bytes, at, 2);
-    number_of_two(bytes, at) + 65536 * number_of_two(bytes, place)
+    u32::from(first::<u16>(rest(bytes, at)))
 }
 
 pub fn number_of_four(bytes: &[u8], at: usize) -> u32
     ensures { result ≡ number (take 4 (drop at bytes.now)) }
 {
-    if 4 <= left(bytes, at) {
-        return four_bytes(bytes, at);
-    }
-    short_of_four(bytes, at)
-}
-
-// In two parts, either of which may be cut short.
-fn short_of_eight(bytes: &[u8], at: usize) -> u64
-    ensures { result ≡ number (take 8 (drop at bytes.now)) }
-{
-    let place = after(bytes, at, 4);
-    half(number_of_four(bytes, at)) + 4294967296 * half(number_of_four(bytes, place))
+    first(rest(bytes, at))
 }
 
 pub fn number_of_eight(bytes: &[u8], at: usize) -> u64
     ensures { result ≡ number (take 8 (drop at bytes.now)) }
 {
-    if 8 <= left(bytes, at) {
-        return eight_bytes(bytes, at);
-    }
-    short_of_eight(bytes, at)
+    first(rest(bytes, at))
 }
 
-// By complement and not by negation: the least i32 has no negative.
-pub fn of_bits(bits: u32) -> i32
-    ensures { result ≡ signed bits }
+// Each item stands whole, so that nothing is asked in the loop.
+fn copy_whole<T: Item>(bytes: &[u8], items: &mut [T])
+    requires { T.SIZE * length items.old ≤ length bytes.now }
+    ensures { items.new ≡ T.several (length items.old) bytes.now }
 {
-    if bits < 2147483648 {
-        bits as i32
+    let mut left = bytes;
+    for item in items.iter_mut() {
+        *item = T::read(left);
+        left = &left[T::SIZE..];
+    }
+}
+
+fn copy_cut<T: Item>(bytes: &[u8], items: &mut [T])
+    ensures { items.new ≡ T.several (length items.old) bytes.now }
+{
+    let mut left = bytes;
+    for item in items.iter_mut() {
+        *item = first(left);
+        left = rest(left, T::SIZE);
+    }
+}
+
+// As many items as the lent part holds.
+fn copy_items<T: Item>(bytes: &[u8], items: &mut [T])
+    ensures { items.new ≡ T.several (length items.old) bytes.now }
+{
+    if items.len() <= bytes.len() / T::SIZE {
+        copy_whole(bytes, items);
     } else {
-        !((4294967295 - bits) as i32)
+        copy_cut(bytes, items);
     }
 }
 
-// Each literal stands whole, so that nothing is asked in the loop.
-fn copy_whole_literals(bytes: &[u8], at: usize, clause: &mut [i32])
-    requires { 4 * length clause.old ≤ length bytes.now - at }
-    ensures { clause.new ≡ literals (length clause.old) (drop at bytes.now) }
-{
-    let mut place = at;
-    let mut i: usize = 0;
-    while i < clause.len() {
-        let bits = four_bytes(bytes, place);
-        clause[i] = of_bits(bits);
-        place += 4;
-        i += 1;
-    }
-}
-
-fn copy_cut_literals(bytes: &[u8], at: usize, clause: &mut [i32])
-    ensures { clause.new ≡ literals (length clause.old) (drop at bytes.now) }
-{
-    let mut place = at;
-    let mut i: usize = 0;
-    while i < clause.len() {
-        let bits = short_of_four(bytes, place);
-        clause[i] = of_bits(bits);
-        place = after(bytes, place, 4);
-        i += 1;
-    }
-}
-
-// As many literals as the lent part holds.
 pub fn copy_literals(bytes: &[u8], at: usize, clause: &mut [i32])
     ensures { clause.new ≡ literals (length clause.old) (drop at bytes.now) }
 {
-    if clause.len() <= left(bytes, at) / 4 {
-        copy_whole_literals(bytes, at, clause);
-    } else {
-        copy_cut_literals(bytes, at, clause);
-    }
+    copy_items(rest(bytes, at), clause);
 }
 
-// The same for hints.
-fn copy_whole_hints(bytes: &[u8], at: usize, words: &mut [u64])
-    requires { 8 * length words.old ≤ length bytes.now - at }
-    ensures { words.new ≡ numbers_in 8 (length words.old) (drop at bytes.now) }
-{
-    let mut place = at;
-    let mut i: usize = 0;
-    while i < words.len() {
-        words[i] = eight_bytes(bytes, place);
-        place += 8;
-        i += 1;
-    }
-}
-
-fn copy_cut_hints(bytes: &[u8], at: usize, words: &mut [u64])
-    ensures { words.new ≡ numbers_in 8 (length words.old) (drop at bytes.now) }
-{
-    let mut place = at;
-    let mut i: usize = 0;
-    while i < words.len() {
-        words[i] = short_of_eight(bytes, place);
-        place = after(bytes, place, 8);
-        i += 1;
-    }
-}
-
-// As many hints as the lent part holds.
 pub fn copy_hints(bytes: &[u8], at: usize, words: &mut [u64])
     ensures { words.new ≡ numbers_in 8 (length words.old) (drop at bytes.now) }
 {
-    if words.len() <= left(bytes, at) / 8 {
-        copy_whole_hints(bytes, at, words);
-    } else {
-        copy_cut_hints(bytes, at, words);
-    }
+    copy_items(rest(bytes, at), words);
 }
 
 // As few bytes as hold a bit for each variable, and the spare bits of the last one 0.
 pub fn arrangement_has_form(variables: u32, payload: &[u8]) -> bool
     ensures { result ≡ arrangement_form variables payload.now }
 {
-    let full = (variables / 8) as usize;
-    let over = variables % 8;
-    if over == 0 {
-        return payload.len() == full;
-    }
-    if payload.len() != full + 1 {
-        return false;
-    }
-    payload[full] >> over == 0
+    let last = payload.get((variables / 8) as usize).copied().unwrap_or(0);
+    payload.len() == variables.div_ceil(8) as usize && last >> (variables % 8) == 0
 }

@@ -3,17 +3,19 @@ use mathlib.Core.Path.{◌≡◌, refl, sym, ap, ◌∙◌}
 use mathlib.Core.Bool.{Bool, true, false}
 use mathlib.Core.List.{List, [], ◌∷◌, ◌++◌}
 use Prim.Native.Nat.{ℕ, suc, ◌+◌, ◌<◌, ◌≤◌}
+use Rattle.std.specs.Prelude.{Option, Some, None}
+use Rattle.std.specs.Option.{is_some}
 use native.Mathlib.Numerals.{add-one}
 use lib.IntN.{ℤ, pos}
 use lib.ListN.{length, drop, get_or, drop_of_length-le}
-use lib.Seq.{drop-cons, drop-length}
+use lib.Seq.{drop-cons}
 use borrow.Author.Tests.{ltb-true}
 use Rattle.paper.specs.Clauses.{Clause, variable, every}
 use Rattle.paper.specs.Derivation.{Value, unassigned, is, Assigned, with_literal, read}
 use Rattle.paper.specs.declared.Reading.{Reading}
 use Rattle.paper.specs.declared.Reading.TheVariants.{AllFalse, Forces, AlreadyTrue, StillOpen}
 use Rattle.paper.proofs.Lists.{and_split}
-use Rattle.clauses.proofs.Lists.{clash}
+use Rattle.clauses.proofs.Lists.{clash, unlike}
 use Rattle.values.specs.Values.{literal_in, Represents}
 use Rattle.readings.specs.Readings.{read_in, both}
 use Rattle.values.specs.Values.{placed}
@@ -21,17 +23,11 @@ use Rattle.values.proofs.Values.{literal_represents}
 
 -- ── Two parts of a clause ──
 
-pub both_none : (a : Reading) → both a AllFalse ≡ a
+both_none : (a : Reading) → both a AllFalse ≡ a
 both_none AllFalse = refl
 both_none (Forces l) = refl
 both_none AlreadyTrue = refl
 both_none StillOpen = refl
-
-pub both_true : (a : Reading) → both a AlreadyTrue ≡ AlreadyTrue
-both_true AllFalse = refl
-both_true (Forces l) = refl
-both_true AlreadyTrue = refl
-both_true StillOpen = refl
 
 pub both_assoc : (a b c : Reading) → both (both a b) c ≡ both a (both b c)
 both_assoc AllFalse b c = refl
@@ -77,21 +73,26 @@ read_next room c i r h =
     let first = read-append room (get_or c i (pos 0) ∷ []) (drop (suc i) c) in
     rw (add-one, drop-cons c i (pos 0), both_assoc) (ap (both r) (sym first))
 
-pub read_end : (room : List ℕ) (c : Clause) (i : ℕ) (r : Reading) → i ≡ length c → both r (read_in room (drop i c)) ≡ r
-read_end room c i r e = rw (e, drop-length) (both_none r)
-
 -- ── A stretch with at most one literal that is not false ──
 
 pub false_next : (room : List ℕ) (c : Clause) (i : ℕ) → i < length c → literal_in room (get_or c i (pos 0)) ≡ is false
     → read_in room (drop i c) ≡ read_in room (drop (i + 1) c)
 false_next room c i h e = rw (add-one, drop-cons c i (pos 0) h, e)
 
-pub none_left : (room : List ℕ) (c : Clause) (i : ℕ) → length c ≤ i → read_in room (drop i c) ≡ AllFalse
-none_left room c i h = rw (drop_of_length-le c h)
+abbrev pub one_or_none : Option ℤ → Clause
+one_or_none None = []
+one_or_none (Some l) = l ∷ []
 
-pub one_left : (room : List ℕ) (c : Clause) (i : ℕ) → i < length c → read_in room (drop (i + 1) c) ≡ AllFalse
-    → read_in room (drop i c) ≡ read_in room (get_or c i (pos 0) ∷ [])
-one_left room c i h e = let later : read_in room (drop (suc i) c) ≡ AllFalse = rw (← add-one) e in rw (drop-cons c i (pos 0) h, later)
+pub first_other : (room : List ℕ) (c : Clause) (i : ℕ) (other : Option ℤ) → false ≡ is_some other → i < length c
+    → both (read_in room (one_or_none other)) (read_in room (drop i c)) ≡ read_in room c
+    → both (read_in room (get_or c i (pos 0) ∷ [])) (read_in room (drop (i + 1) c)) ≡ read_in room c
+first_other room c i None e h known = read_next room c i AllFalse h ∙ known
+first_other room c i (Some l) e h known = unlike e
+
+pub only_other : (room : List ℕ) (c : Clause) (i : ℕ) (other : Option ℤ) (l : ℤ) → other ≡ Some l → length c ≤ i
+    → both (read_in room (one_or_none other)) (read_in room (drop i c)) ≡ read_in room c → read_in room (l ∷ []) ≡ read_in room c
+only_other room c i other l e h known =
+    sym (both_none (read_in room (l ∷ []))) ∙ rw (e, drop_of_length-le c h) at known
 
 -- ── The paper's reading ──
 

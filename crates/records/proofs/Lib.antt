@@ -4,3 +4,4 @@ pub mod Records
 pub mod Long
 pub mod ByKind
 pub mod Answered
+pub mod Numbered

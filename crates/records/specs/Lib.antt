@@ -1,2 +1,4 @@
 -- What the contracts of this crate cite besides the paper.
 pub mod Parts
+pub mod Kinds
+pub mod Lent

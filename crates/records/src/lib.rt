@@ -3,27 +3,55 @@
 // payloads of any content; what it says, it says of each session that a caller keeps.
 #![tactic(auto)]
 
-ghost use Rattle.std.specs.Prelude.{◌≡◌, true, List, ◌++◌, ℕ, min, length};
+ghost use Rattle.std.specs.Prelude.{◌≡◌, true, List, ◌++◌, ℕ, length};
 ghost use Rattle.paper.specs.Sizes.{narrow, wish_room};
 ghost use Rattle.paper.specs.Session.{Session, tally_of};
 ghost use Rattle.paper.specs.Steps.{rule, opened, next, outcome};
 ghost use Rattle.paper.specs.Runs.{Reached};
 ghost use Rattle.paper.specs.Records.{literals as literals_in, record_answer, record_next, record_outcome};
+ghost use Rattle.clauses.specs.Lent.{SameFamily};
+ghost use Rattle.values.specs.Lent.{bytes, KeptValues};
+ghost use Rattle.weights.specs.Lent.{SameWeights};
+ghost use Rattle.records.specs.Kinds.{Decodes, kind_number};
+ghost use Rattle.records.specs.Lent.{lent};
 ghost use Rattle.records.specs.Parts.{wish_in, derive_in};
-ghost use Rattle.rooms.specs.Held.{HeldIn, HeldRules, HeldWishes, HeldDerived, HeldCounters, HeldWeights, Zeros, wish_family};
+ghost use Rattle.rooms.specs.Held.{Rooms as RoomLists, HeldIn, HeldRules, HeldWishes, HeldDerived, HeldCounters, HeldWeights, Zeros, wish_family};
 ghost use Rattle.rooms.specs.Kept.{Kept};
+ghost use Rattle.rooms.specs.Owned.{Keeps};
 
-use paper::{Answer, Outcome, Tally};
+use clauses::{FamilyRooms, FamilyRoomsMut};
+use paper::{Answer, Outcome, Reason, Tally};
+use rooms::Rooms;
+use values::ValueRooms;
+use weights::WeightRooms;
 
-// How many of a record's literals or hints are looked at: one more than a step takes is as good as all of them, since the step
-// refuses either.
-fn looked_at(count: usize, most: usize) -> usize
-    ensures { result ≡ min count most }
-{
-    if most < count {
-        return most;
+// The kinds of records, by the numbers that stand in them.
+#[derive(Clone, Copy)]
+pub enum Kind {
+    Open = 1,
+    Rule = 2,
+    Wish = 3,
+    Derive = 4,
+    Core = 5,
+    Judge = 6,
+}
+
+impl TryFrom<u32> for Kind {
+    type Error = Reason;
+
+    ghost try_from_gives = { Decodes };
+
+    fn try_from(kind: u32) -> Result<Kind, Reason> {
+        match kind {
+            1 => Ok(Kind::Open),
+            2 => Ok(Kind::Rule),
+            3 => Ok(Kind::Wish),
+            4 => Ok(Kind::Derive),
+            5 => Ok(Kind::Core),
+            6 => Ok(Kind::Judge),
+            _ => Err(Reason::UnknownKind),
+        }
     }
-    count
 }
 
 fn open_record(tally: Tally, payload: &[u8]) -> Outcome
@@ -31,130 +59,116 @@ fn open_record(tally: Tally, payload: &[u8]) -> Outcome
         → result ≡ record_outcome s (record { kind = 1; payload = payload.now }) }
 {
     if 0 < tally.variables {
-        return openings::refused(tally, 12);
+        return openings::refuse(tally, Reason::OutOfTurn);
     }
     if payload.len() != 4 {
-        return openings::refused(tally, 13);
+        return openings::refuse(tally, Reason::WrongForm);
     }
-    let variables = payload::number_of_four(payload, 0);
-    openings::open_session(tally, variables)
+    openings::open_session(tally, payload::number_of_four(payload, 0))
 }
 
 // A rule with as many of the payload's literals as the lent part holds.
 fn rule_with(
     tally: Tally,
-    literals: &mut [i32],
-    ends: &mut [u32],
-    low: &mut [u8],
-    high: &mut [u8],
+    rules: &mut FamilyRoomsMut,
+    values: &mut ValueRooms,
     payload: &[u8],
     clause: &mut [i32],
 ) -> Outcome
-    ensures kept { (low.new ≡ low.old) × (high.new ≡ high.old) }
-    ensures stepped { (s : Session) → Reached s → tally ≡ tally_of s → HeldRules literals.old ends.old s
-        → Zeros narrow (low.old ++ high.old)
+    ensures same { SameFamily rules.old rules.new }
+    ensures kept { KeptValues values.old values.new }
+    ensures stepped { (s : Session) → Reached s → tally ≡ tally_of s
+        → HeldRules rules.old.literals.now rules.old.ends.now s
+        → Zeros narrow (bytes values.old)
         → (result ≡ outcome s (rule (literals_in (length clause.old) payload.now)))
-        × HeldRules literals.new ends.new
+        × HeldRules rules.new.literals.now rules.new.ends.now
         (next s (rule (literals_in (length clause.old) payload.now))) }
 {
     payload::copy_literals(payload, 0, clause);
-    rules::rule(tally, literals, ends, low, high, clause)
+    rules::rule(tally, rules, values, clause)
 }
 
+// Of a record's literals, and of its hints, no more are looked at than one more than a step takes: the step refuses either.
 fn rule_record(
     tally: Tally,
-    literals: &mut [i32],
-    ends: &mut [u32],
-    low: &mut [u8],
-    high: &mut [u8],
+    rules: &mut FamilyRoomsMut,
+    values: &mut ValueRooms,
     payload: &[u8],
 ) -> Outcome
-    ensures kept { (low.new ≡ low.old) × (high.new ≡ high.old) }
+    ensures same { SameFamily rules.old rules.new }
+    ensures kept { KeptValues values.old values.new }
     ensures stepped { (s : Session) → Reached s → tally ≡ tally_of s → opened s ≡ true
-        → HeldRules literals.old ends.old s → Zeros narrow (low.old ++ high.old)
+        → HeldRules rules.old.literals.now rules.old.ends.now s → Zeros narrow (bytes values.old)
         → (result ≡ record_outcome s (record { kind = 2; payload = payload.now }))
-        × HeldRules literals.new ends.new (record_next s (record { kind = 2; payload = payload.now })) }
+        × HeldRules rules.new.literals.now rules.new.ends.now
+        (record_next s (record { kind = 2; payload = payload.now })) }
 {
     if payload.len() % 4 != 0 {
-        return openings::refused(tally, 13);
+        return openings::refuse(tally, Reason::WrongForm);
     }
     let mut clause = [0i32; 65];
-    let count = looked_at(payload.len() / 4, 65);
-    rule_with(
-        tally,
-        literals,
-        ends,
-        low,
-        high,
-        payload,
-        &mut clause[..count],
-    )
+    let count = (payload.len() / 4).min(65);
+    rule_with(tally, rules, values, payload, &mut clause[..count])
 }
 
 // A wish with as many of the payload's literals as the lent part holds. `left` is the room of the remaining weights of wish
 // variables.
 fn wish_with(
     tally: Tally,
-    literals: &mut [i32],
-    ends: &mut [u32],
+    wishes: &mut FamilyRoomsMut,
     weights: &mut [u32],
     left: &mut [u32],
-    low: &mut [u8],
-    high: &mut [u8],
+    values: &mut ValueRooms,
     payload: &[u8],
     clause: &mut [i32],
 ) -> Outcome
-    ensures kept { (low.new ≡ low.old) × (high.new ≡ high.old) }
+    ensures same { SameFamily wishes.old wishes.new }
+    ensures kept { KeptValues values.old values.new }
     ensures stepped { (s : Session) (outputs : List ℕ) → Reached s → tally ≡ tally_of s
-        → HeldWishes literals.old ends.old weights.old s → HeldWeights left.old outputs s
-        → Zeros narrow (low.old ++ high.old)
+        → HeldWishes wishes.old.literals.now wishes.old.ends.now weights.old s → HeldWeights left.old outputs s
+        → Zeros narrow (bytes values.old)
         → (result ≡ outcome s (wish_in (length clause.old) payload.now))
-        × HeldWishes literals.new ends.new weights.new
+        × HeldWishes wishes.new.literals.now wishes.new.ends.now weights.new
         (next s (wish_in (length clause.old) payload.now))
         × HeldWeights left.new outputs (next s (wish_in (length clause.old) payload.now)) }
 {
     let weight = payload::number_of_four(payload, 0);
     payload::copy_literals(payload, 4, clause);
-    wishes::wish(
-        tally, literals, ends, weights, left, low, high, weight, clause,
-    )
+    wishes::wish(tally, wishes, weights, left, values, weight, clause)
 }
 
 fn wish_record(
     tally: Tally,
-    literals: &mut [i32],
-    ends: &mut [u32],
+    wishes: &mut FamilyRoomsMut,
     weights: &mut [u32],
     left: &mut [u32],
-    low: &mut [u8],
-    high: &mut [u8],
+    values: &mut ValueRooms,
     payload: &[u8],
 ) -> Outcome
-    ensures kept { (low.new ≡ low.old) × (high.new ≡ high.old) }
+    ensures same { SameFamily wishes.old wishes.new }
+    ensures kept { KeptValues values.old values.new }
     ensures stepped { (s : Session) (outputs : List ℕ) → Reached s → tally ≡ tally_of s → opened s ≡ true
-        → HeldWishes literals.old ends.old weights.old s → HeldWeights left.old outputs s
-        → Zeros narrow (low.old ++ high.old)
+        → HeldWishes wishes.old.literals.now wishes.old.ends.now weights.old s → HeldWeights left.old outputs s
+        → Zeros narrow (bytes values.old)
         → (result ≡ record_outcome s (record { kind = 3; payload = payload.now }))
-        × HeldWishes literals.new ends.new weights.new
+        × HeldWishes wishes.new.literals.now wishes.new.ends.now weights.new
         (record_next s (record { kind = 3; payload = payload.now }))
         × HeldWeights left.new outputs (record_next s (record { kind = 3; payload = payload.now })) }
 {
     if payload.len() < 4 {
-        return openings::refused(tally, 13);
+        return openings::refuse(tally, Reason::WrongForm);
     }
     if payload.len() % 4 != 0 {
-        return openings::refused(tally, 13);
+        return openings::refuse(tally, Reason::WrongForm);
     }
     let mut clause = [0i32; 65];
-    let count = looked_at(payload.len() / 4 - 1, 65);
+    let count = (payload.len() / 4 - 1).min(65);
     wish_with(
         tally,
-        literals,
-        ends,
+        wishes,
         weights,
         left,
-        low,
-        high,
+        values,
         payload,
         &mut clause[..count],
     )
@@ -163,103 +177,78 @@ fn wish_record(
 // A derived clause with as many of the payload's literals and hints as the lent parts hold; the hints begin at `start`.
 fn derive_with(
     tally: Tally,
-    rules: &[i32],
-    rule_ends: &[u32],
-    wishes: &[i32],
-    wish_ends: &[u32],
-    inputs: &[i32],
-    counter_ends: &[u32],
-    derived: &mut [i32],
-    derived_ends: &mut [u32],
-    low: &mut [u8],
-    high: &mut [u8],
+    rules: FamilyRooms,
+    wishes: FamilyRooms,
+    counters: FamilyRooms,
+    derived: &mut FamilyRoomsMut,
+    values: &mut ValueRooms,
     payload: &[u8],
     start: usize,
     clause: &mut [i32],
     hints: &mut [u64],
 ) -> Outcome
-    ensures kept { (low.new ≡ low.old) × (high.new ≡ high.old) }
+    ensures same { SameFamily derived.old derived.new }
+    ensures kept { KeptValues values.old values.new }
     ensures stepped { (s : Session) → Reached s → tally ≡ tally_of s
-        → HeldRules rules.now rule_ends.now s
-        → HeldIn wish_room wishes.now wish_ends.now (wish_family s.sheet.wishes)
-        → HeldCounters inputs.now counter_ends.now s
-        → HeldDerived derived.old derived_ends.old s
-        → Zeros narrow (low.old ++ high.old)
+        → HeldRules rules.entry.literals.now rules.entry.ends.now s
+        → HeldIn wish_room wishes.entry.literals.now wishes.entry.ends.now (wish_family s.sheet.wishes)
+        → HeldCounters counters.entry.literals.now counters.entry.ends.now s
+        → HeldDerived derived.old.literals.now derived.old.ends.now s
+        → Zeros narrow (bytes values.old)
         → (result ≡ outcome s (derive_in (length clause.old) (length hints.old) start payload.now))
-        × HeldDerived derived.new derived_ends.new
+        × HeldDerived derived.new.literals.now derived.new.ends.now
         (next s (derive_in (length clause.old) (length hints.old) start payload.now)) }
 {
     payload::copy_literals(payload, 4, clause);
     payload::copy_hints(payload, start, hints);
     derived::derive(
-        tally,
-        rules,
-        rule_ends,
-        wishes,
-        wish_ends,
-        inputs,
-        counter_ends,
-        derived,
-        derived_ends,
-        low,
-        high,
-        clause,
-        hints,
+        tally, rules, wishes, counters, derived, values, clause, hints,
     )
 }
 
 fn derive_record(
     tally: Tally,
-    rules: &[i32],
-    rule_ends: &[u32],
-    wishes: &[i32],
-    wish_ends: &[u32],
-    inputs: &[i32],
-    counter_ends: &[u32],
-    derived: &mut [i32],
-    derived_ends: &mut [u32],
-    low: &mut [u8],
-    high: &mut [u8],
+    rules: FamilyRooms,
+    wishes: FamilyRooms,
+    counters: FamilyRooms,
+    derived: &mut FamilyRoomsMut,
+    values: &mut ValueRooms,
     payload: &[u8],
 ) -> Outcome
-    ensures kept { (low.new ≡ low.old) × (high.new ≡ high.old) }
+    ensures same { SameFamily derived.old derived.new }
+    ensures kept { KeptValues values.old values.new }
     ensures stepped { (s : Session) → Reached s → tally ≡ tally_of s → opened s ≡ true
-        → HeldRules rules.now rule_ends.now s
-        → HeldIn wish_room wishes.now wish_ends.now (wish_family s.sheet.wishes)
-        → HeldCounters inputs.now counter_ends.now s
-        → HeldDerived derived.old derived_ends.old s
-        → Zeros narrow (low.old ++ high.old)
+        → HeldRules rules.entry.literals.now rules.entry.ends.now s
+        → HeldIn wish_room wishes.entry.literals.now wishes.entry.ends.now (wish_family s.sheet.wishes)
+        → HeldCounters counters.entry.literals.now counters.entry.ends.now s
+        → HeldDerived derived.old.literals.now derived.old.ends.now s
+        → Zeros narrow (bytes values.old)
         → (result ≡ record_outcome s (record { kind = 4; payload = payload.now }))
-        × HeldDerived derived.new derived_ends.new
+        × HeldDerived derived.new.literals.now derived.new.ends.now
         (record_next s (record { kind = 4; payload = payload.now })) }
 {
     if payload.len() < 4 {
-        return openings::refused(tally, 13);
+        return openings::refuse(tally, Reason::WrongForm);
     }
     let literals = payload::number_of_four(payload, 0) as usize;
     let start = 4 + 4 * literals;
     if payload.len() < start {
-        return openings::refused(tally, 13);
+        return openings::refuse(tally, Reason::WrongForm);
     }
     if (payload.len() - start) % 8 != 0 {
-        return openings::refused(tally, 13);
+        return openings::refuse(tally, Reason::WrongForm);
     }
     let mut clause = [0i32; 65];
     let mut hints = [0u64; 257];
-    let count = looked_at(literals, 65);
-    let hint_count = looked_at((payload.len() - start) / 8, 257);
+    let count = literals.min(65);
+    let hint_count = ((payload.len() - start) / 8).min(257);
     derive_with(
         tally,
         rules,
-        rule_ends,
         wishes,
-        wish_ends,
-        inputs,
-        counter_ends,
+        counters,
         derived,
-        derived_ends,
-        low,
-        high,
+        values,
         payload,
         start,
         &mut clause[..count],
@@ -267,84 +256,125 @@ fn derive_record(
     )
 }
 
-// `left` and `outputs` are the rooms of remaining weights.
 fn core_record(
     tally: Tally,
-    derived: &[i32],
-    derived_ends: &[u32],
-    inputs: &mut [i32],
-    counter_ends: &mut [u32],
-    left: &mut [u32],
-    outputs: &mut [u32],
+    derived: FamilyRooms,
+    counters: &mut FamilyRoomsMut,
+    weights: &mut WeightRooms,
     payload: &[u8],
 ) -> Outcome
-    ensures { (s : Session) → Reached s → tally ≡ tally_of s → opened s ≡ true
-        → HeldDerived derived.now derived_ends.now s
-        → HeldCounters inputs.old counter_ends.old s → HeldWeights left.old outputs.old s
+    ensures same { SameFamily counters.old counters.new × SameWeights weights.old weights.new }
+    ensures stepped { (s : Session) → Reached s → tally ≡ tally_of s → opened s ≡ true
+        → HeldDerived derived.entry.literals.now derived.entry.ends.now s
+        → HeldCounters counters.old.literals.now counters.old.ends.now s
+        → HeldWeights weights.old.wishes.now weights.old.outputs.now s
         → (result ≡ record_outcome s (record { kind = 5; payload = payload.now }))
-        × HeldCounters inputs.new counter_ends.new (record_next s (record { kind = 5; payload = payload.now }))
-        × HeldWeights left.new outputs.new (record_next s (record { kind = 5; payload = payload.now })) }
+        × HeldCounters counters.new.literals.now counters.new.ends.now
+        (record_next s (record { kind = 5; payload = payload.now }))
+        × HeldWeights weights.new.wishes.now weights.new.outputs.now
+        (record_next s (record { kind = 5; payload = payload.now })) }
 {
     if payload.len() != 4 {
-        return openings::refused(tally, 13);
+        return openings::refuse(tally, Reason::WrongForm);
     }
     let number = payload::number_of_four(payload, 0);
-    cores::core(
-        tally,
-        derived,
-        derived_ends,
-        inputs,
-        counter_ends,
-        left,
-        outputs,
-        number,
-    )
+    cores::core(tally, derived, counters, weights, number)
 }
 
 fn judge_record(
     tally: Tally,
-    rules: &[i32],
-    rule_ends: &[u32],
-    wishes: &[i32],
-    wish_ends: &[u32],
+    rules: FamilyRooms,
+    wishes: FamilyRooms,
     wish_weights: &[u32],
     payload: &[u8],
 ) -> Answer
     ensures { (s : Session) → Reached s → tally ≡ tally_of s → opened s ≡ true
-        → HeldRules rules.now rule_ends.now s
-        → HeldWishes wishes.now wish_ends.now wish_weights.now s
+        → HeldRules rules.entry.literals.now rules.entry.ends.now s
+        → HeldWishes wishes.entry.literals.now wishes.entry.ends.now wish_weights.now s
         → result ≡ record_answer s (record { kind = 6; payload = payload.now }) }
 {
     if !payload::arrangement_has_form(tally.variables, payload) {
-        return Answer::Refused(13);
+        return Answer::Refused(Reason::WrongForm.number());
     }
-    judge::judge(
-        tally,
-        rules,
-        rule_ends,
-        wishes,
-        wish_ends,
-        wish_weights,
-        payload,
-    )
+    judge::judge(tally, rules, wishes, wish_weights, payload)
 }
 
-// One record. The rooms are arrays, so that no caller can lend one of a wrong size.
-pub fn answer_record(
+// A record of a known kind before the opening: no room is touched, and only an opening is taken.
+fn answer_closed(tally: Tally, kind: Kind, payload: &[u8]) -> Outcome
+    ensures { (s : Session) (rooms : RoomLists) (low high : List ℕ) → Kept tally rooms (low ++ high) s → tally.variables ≡ 0
+        → (result ≡ record_outcome s (record { kind = kind_number kind; payload = payload.now }))
+        × Kept result.tally rooms (low ++ high) (record_next s (record { kind = kind_number kind; payload = payload.now })) }
+{
+    match kind {
+        Kind::Open => open_record(tally, payload),
+        _ => openings::refuse(tally, Reason::OutOfTurn),
+    }
+}
+
+// A record of a known kind.
+fn answer_kind(
     tally: Tally,
-    rules: &mut [i32; 16384],
-    rule_ends: &mut [u32; 2048],
-    wishes: &mut [i32; 8192],
-    wish_ends: &mut [u32; 512],
+    rules: &mut FamilyRoomsMut,
+    wishes: &mut FamilyRoomsMut,
+    wish_weights: &mut [u32],
+    derived: &mut FamilyRoomsMut,
+    counters: &mut FamilyRoomsMut,
+    weights: &mut WeightRooms,
+    values: &mut ValueRooms,
+    kind: Kind,
+    payload: &[u8],
+) -> Outcome
+    ensures same { SameFamily rules.old rules.new × SameFamily wishes.old wishes.new
+        × SameFamily derived.old derived.new × SameFamily counters.old counters.new
+        × SameWeights weights.old weights.new }
+    ensures kept { KeptValues values.old values.new }
+    ensures answered { (s : Session)
+        → Kept tally (lent rules.old wishes.old wish_weights.old derived.old counters.old weights.old) (bytes values.old) s
+        → (result ≡ record_outcome s (record { kind = kind_number kind; payload = payload.now }))
+        × Kept result.tally (lent rules.new wishes.new wish_weights.new derived.new counters.new weights.new)
+        (bytes values.new) (record_next s (record { kind = kind_number kind; payload = payload.now })) }
+{
+    if tally.variables == 0 {
+        return answer_closed(tally, kind, payload);
+    }
+    match kind {
+        Kind::Open => open_record(tally, payload),
+        Kind::Rule => rule_record(tally, rules, values, payload),
+        Kind::Wish => { wish_record(tally, wishes, wish_weights, weights.wishes, values, payload) }
+        Kind::Derive => derive_record(
+            tally,
+            rules.view(),
+            wishes.view(),
+            counters.view(),
+            derived,
+            values,
+            payload,
+        ),
+        Kind::Core => core_record(tally, derived.view(), counters, weights, payload),
+        Kind::Judge => Outcome {
+            tally,
+            answer: judge_record(tally, rules.view(), wishes.view(), wish_weights, payload),
+        },
+    }
+}
+
+// One record. The rooms are arrays, so that no caller can lend one of a wrong size, and thirteen, because the C interface lends each by
+// a pointer of its own: they are put together here.
+pub fn answer_record<'a>(
+    tally: Tally,
+    rules: &'a mut [i32; 16384],
+    rule_ends: &'a mut [u32; 2048],
+    wishes: &'a mut [i32; 8192],
+    wish_ends: &'a mut [u32; 512],
     wish_weights: &mut [u32; 512],
-    derived: &mut [i32; 16384],
-    derived_ends: &mut [u32; 4096],
-    inputs: &mut [i32; 8192],
-    counter_ends: &mut [u32; 128],
-    left: &mut [u32; 512],
-    outputs: &mut [u32; 8192],
-    low: &mut [u8; 4001],
-    high: &mut [u8; 65536],
+    derived: &'a mut [i32; 16384],
+    derived_ends: &'a mut [u32; 4096],
+    inputs: &'a mut [i32; 8192],
+    counter_ends: &'a mut [u32; 128],
+    left: &'a mut [u32; 512],
+    outputs: &'a mut [u32; 8192],
+    low: &'a mut [u8; 4001],
+    high: &'a mut [u8; 65536],
     kind: u32,
     payload: &[u8],
 ) -> Outcome
@@ -382,71 +412,68 @@ pub fn answer_record(
         })
         (low.new ++ high.new) (record_next s (record { kind = kind; payload = payload.now })) }
 {
-    if kind < 1 {
-        return openings::refused(tally, 11);
-    }
-    if 6 < kind {
-        return openings::refused(tally, 11);
-    }
-    if kind == 1 {
-        return open_record(tally, payload);
-    }
-    if tally.variables == 0 {
-        return openings::refused(tally, 12);
-    }
-    if kind == 2 {
-        return rule_record(tally, rules, rule_ends, low, high, payload);
-    }
-    if kind == 3 {
-        return wish_record(
-            tally,
-            wishes,
-            wish_ends,
-            wish_weights,
-            left,
-            low,
-            high,
-            payload,
-        );
-    }
-    if kind == 4 {
-        return derive_record(
-            tally,
-            rules,
-            rule_ends,
-            wishes,
-            wish_ends,
-            inputs,
-            counter_ends,
-            derived,
-            derived_ends,
-            low,
-            high,
-            payload,
-        );
-    }
-    if kind == 5 {
-        return core_record(
-            tally,
-            derived,
-            derived_ends,
-            inputs,
-            counter_ends,
-            left,
-            outputs,
-            payload,
-        );
-    }
-    Outcome {
-        tally: tally,
-        answer: judge_record(
-            tally,
-            rules,
-            rule_ends,
-            wishes,
-            wish_ends,
-            wish_weights,
-            payload,
-        ),
-    }
+    let kind = match Kind::try_from(kind) {
+        Ok(kind) => kind,
+        Err(reason) => return openings::refuse(tally, reason),
+    };
+    let mut rules = FamilyRoomsMut {
+        literals: rules,
+        ends: rule_ends,
+    };
+    let mut wishes = FamilyRoomsMut {
+        literals: wishes,
+        ends: wish_ends,
+    };
+    let mut derived = FamilyRoomsMut {
+        literals: derived,
+        ends: derived_ends,
+    };
+    let mut counters = FamilyRoomsMut {
+        literals: inputs,
+        ends: counter_ends,
+    };
+    let mut weights = WeightRooms {
+        wishes: left,
+        outputs,
+    };
+    let mut values = ValueRooms { low, high };
+    answer_kind(
+        tally,
+        &mut rules,
+        &mut wishes,
+        wish_weights,
+        &mut derived,
+        &mut counters,
+        &mut weights,
+        &mut values,
+        kind,
+        payload,
+    )
+}
+
+// One record, over rooms that the caller owns.
+pub fn answer(tally: Tally, rooms: &mut Rooms, kind: u32, payload: &[u8]) -> Outcome
+    ensures kept { (rooms.new.low ≡ rooms.old.low) × (rooms.new.high ≡ rooms.old.high) }
+    ensures answered { (s : Session) → Keeps tally rooms.old s
+        → (result ≡ record_outcome s (record { kind = kind; payload = payload.now }))
+        × Keeps result.tally rooms.new (record_next s (record { kind = kind; payload = payload.now })) }
+{
+    answer_record(
+        tally,
+        &mut rooms.rules,
+        &mut rooms.rule_ends,
+        &mut rooms.wishes,
+        &mut rooms.wish_ends,
+        &mut rooms.wish_weights,
+        &mut rooms.derived,
+        &mut rooms.derived_ends,
+        &mut rooms.inputs,
+        &mut rooms.counter_ends,
+        &mut rooms.left,
+        &mut rooms.outputs,
+        &mut rooms.low,
+        &mut rooms.high,
+        kind,
+        payload,
+    )
 }

@@ -1,3 +1,4 @@
 -- What the contracts of the steps cite besides the paper.
 pub mod Held
 pub mod Kept
+pub mod Owned

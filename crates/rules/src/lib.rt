@@ -3,68 +3,50 @@
 // leaves everything as it was.
 #![tactic(auto)]
 
-ghost use Rattle.std.specs.Prelude.{◌≡◌, ◌++◌};
+ghost use Rattle.std.specs.Prelude.{◌≡◌};
 ghost use Rattle.paper.specs.Sizes.{narrow};
 ghost use Rattle.paper.specs.Session.{Session, tally_of};
 ghost use Rattle.paper.specs.Steps.{rule as ruleStep, next, outcome};
 ghost use Rattle.paper.specs.Runs.{Reached};
+ghost use Rattle.clauses.specs.Lent.{SameFamily};
+ghost use Rattle.values.specs.Lent.{bytes, KeptValues};
 ghost use Rattle.rooms.specs.Held.{HeldRules, Zeros};
 
-use paper::{Answer, Outcome, Tally};
-
-// The tally with so many rules; whatever else it counts stays.
-fn counted(tally: Tally, rules: u32) -> Tally
-    ensures { result ≡ record {
-      variables = tally.variables;
-      rules = rules;
-      wishes = tally.wishes;
-      derived = tally.derived;
-      counters = tally.counters;
-      bound = tally.bound;
-    } }
-{
-    Tally {
-        variables: tally.variables,
-        rules: rules,
-        wishes: tally.wishes,
-        derived: tally.derived,
-        counters: tally.counters,
-        bound: tally.bound,
-    }
-}
+use clauses::FamilyRoomsMut;
+use paper::{Answer, Outcome, Reason, Tally};
+use values::ValueRooms;
 
 pub fn rule(
     tally: Tally,
-    literals: &mut [i32],
-    ends: &mut [u32],
-    low: &mut [u8],
-    high: &mut [u8],
+    rules: &mut FamilyRoomsMut,
+    values: &mut ValueRooms,
     clause: &[i32],
 ) -> Outcome
-    ensures kept { (low.new ≡ low.old) × (high.new ≡ high.old) }
-    ensures stepped { (s : Session) → Reached s → tally ≡ tally_of s → HeldRules literals.old ends.old s
-        → Zeros narrow (low.old ++ high.old)
+    ensures same { SameFamily rules.old rules.new }
+    ensures kept { KeptValues values.old values.new }
+    ensures stepped { (s : Session) → Reached s → tally ≡ tally_of s
+        → HeldRules rules.old.literals.now rules.old.ends.now s
+        → Zeros narrow (bytes values.old)
         → (result ≡ outcome s (ruleStep clause.now))
-        × HeldRules literals.new ends.new (next s (ruleStep clause.now)) }
+        × HeldRules rules.new.literals.now rules.new.ends.now (next s (ruleStep clause.now)) }
 {
     let variables = tally.variables;
     if variables == 0 {
-        return openings::refused(tally, 12);
+        return openings::refuse(tally, Reason::OutOfTurn);
     }
-    let width = openings::width_of(tally);
-    let number = marks::problem_refusal(width.literals as usize, variables, clause, low, high);
-    if number != 0 {
-        return openings::refused(tally, number);
+    let most = openings::width_of(tally).literals as usize;
+    if let Err(reason) = marks::problem_refusal(most, variables, clause, values) {
+        return openings::refuse(tally, reason);
     }
     let count = tally.rules;
-    if 2047 < count {
-        return openings::refused(tally, 23);
-    }
-    if !clauses::append(literals, ends, count, clause) {
-        return openings::refused(tally, 23);
+    if 2047 < count || !rules.append(count, clause) {
+        return openings::refuse(tally, Reason::NoRoom);
     }
     Outcome {
-        tally: counted(tally, count + 1),
+        tally: Tally {
+            rules: count + 1,
+            ..tally
+        },
         answer: Answer::Rule(count),
     }
 }

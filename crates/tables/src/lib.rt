@@ -20,20 +20,15 @@ pub const CLAUSES: [u16; 65] = [
     1931, 1995, 2060, 2126, 2193, 2261, 2330, 2400,
 ];
 
-fn wide(entry: u16) -> usize
-    ensures { result ≡ entry }
-{
-    entry as usize
-}
-
 // An entry of a table that is lent, whatever it is a table of.
 pub fn entry_of(table: &[u16; 65], inputs: usize) -> usize
     ensures { (count : ℕ → ℕ) → table.now ≡ table_of count
         → (inputs ≤ 64 → result ≡ count inputs) × (64 < inputs → result ≡ 0) }
 {
-    if inputs <= 64 { wide(table[inputs]) } else { 0 }
+    usize::from(table.get(inputs).copied().unwrap_or(0))
 }
 
+// This and `clauses_of` are two names for one body, since the description has two tables and docs/PROMISES.md names both.
 pub fn variables_of(inputs: usize) -> usize
     ensures { (inputs ≤ 64 → result ≡ variables_of inputs) × (64 < inputs → result ≡ 0) }
 {
@@ -46,4 +41,27 @@ pub fn clauses_of(inputs: usize) -> usize
 {
     let table = CLAUSES;
     entry_of(&table, inputs)
+}
+
+// Both tables, lent together.
+#[derive(Clone, Copy)]
+pub struct Tables<'a> {
+    pub variables: &'a [u16; 65],
+    pub clauses: &'a [u16; 65],
+    ghost of_variables: { variables.now ≡ table_of variables_of },
+    ghost of_clauses: { clauses.now ≡ table_of clauses_of },
+}
+
+impl Tables<'_> {
+    pub fn variables_of(self, inputs: usize) -> usize
+        ensures { (inputs ≤ 64 → result ≡ variables_of inputs) × (64 < inputs → result ≡ 0) }
+    {
+        entry_of(self.variables, inputs)
+    }
+
+    pub fn clauses_of(self, inputs: usize) -> usize
+        ensures { (inputs ≤ 64 → result ≡ clauses_of inputs) × (64 < inputs → result ≡ 0) }
+    {
+        entry_of(self.clauses, inputs)
+    }
 }

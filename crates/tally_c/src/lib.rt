@@ -11,7 +11,7 @@ ghost use Rattle.rooms.specs.Kept.{Kept};
 
 use paper::{Numbers, Tally, TextAnswer};
 
-// In C each room is a pointer, and the payload a pointer and then its length.
+// In C each room is a pointer of its own, and the payload a pointer and then its length: the C interface keeps the rooms one by one.
 #[unsafe(no_mangle)]
 pub extern "C" fn tally_answer(
     tally: &mut Tally,

@@ -3,8 +3,6 @@
 // the three numbers of the answer, and the checksum of the whole room. A length above what this program has room for ends it.
 #![tactic(auto)]
 
-ghost use Rattle.std.specs.Prelude.{◌<◌};
-
 use paper::TextAnswer;
 use std::io::{Print, Read};
 
@@ -17,29 +15,18 @@ fn mark(place: usize) -> u8 {
 }
 
 fn fill(room: &mut [u8]) {
-    let mut place = 0;
-    while place < room.len() {
-        room[place] = mark(place);
-        place += 1;
+    for (place, byte) in room.iter_mut().enumerate() {
+        *byte = mark(place);
     }
-}
-
-// A call, so that the byte's bound comes with it.
-fn wide(byte: u8) -> u32
-    ensures { result < 256 }
-{
-    byte as u32
 }
 
 // Adler-32: the bytes summed from 1, and the sums of each step summed.
 fn checksum(bytes: &[u8]) -> u32 {
     let mut sum: u32 = 1;
     let mut sums: u32 = 0;
-    let mut place = 0;
-    while place < bytes.len() {
-        sum = (sum + wide(bytes[place])) % MODULUS;
+    for byte in bytes {
+        sum = (sum + u32::from(*byte)) % MODULUS;
         sums = (sums + sum) % MODULUS;
-        place += 1;
     }
     sums * 65536 + sum
 }
@@ -75,16 +62,14 @@ fn answer_next<R: Read, W: Print>(
     texts: &mut [u8],
     rooms: &mut [u8],
 ) -> bool {
-    let mut head = [0u8; 8];
-    if buffers::read_full(source, &mut head) < 8 {
+    let mut room = [0u8; 4];
+    let mut length = [0u8; 4];
+    if buffers::read_full(source, &mut room) < 4 || buffers::read_full(source, &mut length) < 4 {
         return false;
     }
-    let room = payload::number_of_four(&head, 0) as usize;
-    let length = payload::number_of_four(&head, 4) as usize;
-    if rooms.len() < room {
-        return false;
-    }
-    if texts.len() < length {
+    let room = u32::from_le_bytes(room) as usize;
+    let length = u32::from_le_bytes(length) as usize;
+    if rooms.len() < room || texts.len() < length {
         return false;
     }
     answer_text(
@@ -102,8 +87,9 @@ fn main(rt: HostRuntime) {
     let sink = rt.stdout();
     let mut texts = [0u8; 20000];
     let mut rooms = [0u8; 65536];
-    let mut number: u64 = 1;
-    while number < u64::MAX && answer_next(&mut source, &sink, number, &mut texts, &mut rooms) {
-        number += 1;
+    for number in 1..u64::MAX {
+        if !answer_next(&mut source, &sink, number, &mut texts, &mut rooms) {
+            return;
+        }
     }
 }

@@ -1,16 +1,15 @@
 -- Truths in a word: the number of its ones is how many are true.
-use mathlib.Core.Path.{◌≡◌, refl, ap, sym, ◌∙◌}
+use mathlib.Core.Path.{◌≡◌, refl, ap, ◌∙◌}
 use mathlib.Core.Bool.{Bool, true, false}
 use mathlib.Core.List.{List, [], ◌∷◌, ◌++◌, map}
-use Prim.Native.Nat.{ℕ, ◌+◌, ◌-◌, ◌*◌, ◌^◌, ◌<◌, ◌≤◌}
+use Prim.Native.Nat.{ℕ, ◌+◌, ◌*◌, ◌^◌, ◌<◌, ◌≤◌}
 use native.Mathlib.Nat.{pow-suc}
 use native.Mathlib.Numerals.{add-one}
 use native.Mathlib.Omega.{arith}
 use lib.Count.{ones, ones_in, ones_cat}
 use lib.Dec.{ltb}
-use lib.ListN.{length, take, drop, get_or, take-append-drop}
-use lib.Pow.{pow_mono}
-use lib.Seq.{drop-cons, drop-drop}
+use lib.ListN.{length, drop, get_or}
+use lib.Seq.{drop-cons}
 use Rattle.paper.specs.Clauses.{Truth, only}
 use Rattle.paper.proofs.Trees.{true_among}
 use Rattle.truths.specs.Truths.{bit_of, true_bytes}
@@ -26,9 +25,6 @@ module _ (word byte : ℕ) where
   -- The word has one digit more, and room for it below 64.
   pub wider : (i : ℕ) → word < 2 ^ i → word * 2 + bit_of byte < 2 ^ (i + 1)
   wider i h = omega (arith, (one_bit (ltb 0 byte)).0, ap (λ n. 2 ^ n) (add-one i), pow-suc 2 i)
-
-  pub room : (i : ℕ) → i < 64 → word < 2 ^ i → word * 2 + bit_of byte < 2 ^ 64
-  room i h k = let p : 2 ^ i ≤ 2 ^ 63 = pow_mono {j = 63} (omega arith) in omega (arith, (one_bit (ltb 0 byte)).0)
 
   pub one_more : ones (word * 2 + bit_of byte) ≡ ones word + bit_of byte
   one_more =
@@ -46,17 +42,10 @@ pub next : (xs : List ℕ) (i : ℕ) → i < length xs → true_bytes (drop i xs
 unfolding true_bytes
 next xs i h = rw (add-one i, drop-cons xs i 0 h)
 
-apart : (xs ys : List ℕ) → true_bytes (xs ++ ys) ≡ true_bytes xs + true_bytes ys
+pub apart : (xs ys : List ℕ) → true_bytes (xs ++ ys) ≡ true_bytes xs + true_bytes ys
 unfolding true_bytes
 apart [] ys = omega arith
 apart (x ∷ xs) ys = rw (apart xs ys) (omega arith)
-
-pub block : (xs : List ℕ) (at end : ℕ) → at ≤ end
-    → true_bytes (drop at xs) ≡ true_bytes (take (end - at) (drop at xs)) + true_bytes (drop end xs)
-block xs at end h =
-    let e : at + (end - at) ≡ end = omega arith in
-    ap true_bytes (sym (take-append-drop (end - at) (drop at xs))) ∙ apart _ _
-    ∙ ap (λ ys. true_bytes (take (end - at) (drop at xs)) + true_bytes ys) (drop-drop (end - at) at xs ∙ ap (λ n. drop n xs) e)
 
 -- ── The paper's count ──
 

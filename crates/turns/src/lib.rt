@@ -33,16 +33,8 @@ pub struct State {
 pub fn fresh(limit: u64) -> State
     ensures { result ≡ fresh limit }
 {
-    let tally = Tally {
-        variables: 0,
-        rules: 0,
-        wishes: 0,
-        derived: 0,
-        counters: 0,
-        bound: 0,
-    };
     State {
-        tally: tally,
+        tally: Tally::default(),
         place: 1,
         start: 0,
         end: 0,
@@ -53,46 +45,31 @@ pub fn fresh(limit: u64) -> State
     }
 }
 
-// A block gives no more bytes than it has, and then neither test is met: they make the sum safe without a word on the block.
+// A block gives no more bytes than it has, and then both bounds are met: they make the sum safe without a word on the block.
 fn ahead(start: usize, consumed: usize, end: usize) -> usize
     ensures { result ≡ ahead start consumed end }
 {
-    if end < start {
-        return end;
-    }
-    if end - start < consumed {
-        return end;
-    }
-    start + consumed
+    start.saturating_add(consumed).min(end)
 }
 
 // The last block has no record whole and ends a run, with 10 or without.
 fn ends(stopped: bool, written: bool, last: bool, consumed: usize) -> bool
     ensures { result ≡ ends stopped written last consumed }
 {
-    if stopped {
-        return true;
-    }
-    if !written {
-        return true;
-    }
-    last && consumed == 0
+    stopped || !written || last && consumed == 0
 }
 
 // Where a block leads to.
 pub fn after(state: State, done: Progress, written: bool) -> State
     ensures { result ≡ onward state done written }
 {
-    let tally = done.tally;
     State {
-        tally: tally,
+        tally: done.tally,
         place: done.place,
         start: ahead(state.start, done.consumed, state.end),
-        end: state.end,
-        unread: state.unread,
-        last: state.last,
-        written: written,
+        written,
         over: ends(done.stopped, written, state.last, done.consumed),
+        ..state
     }
 }
 
@@ -108,15 +85,11 @@ pub fn refill<R: Read>(source: &mut R, state: State, input: &mut [u8]) -> State
         × (waiting result input.new ≡ waiting state input.old ++ read) }
 {
     let filled = buffers::refill(source, input, state.start, state.end, state.unread);
-    let tally = state.tally;
     State {
-        tally: tally,
-        place: state.place,
         start: 0,
         end: filled.end,
         unread: state.unread - filled.got,
         last: filled.got == 0,
-        written: state.written,
-        over: state.over,
+        ..state
     }
 }

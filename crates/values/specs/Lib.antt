@@ -1,2 +1,3 @@
 -- What the contracts of this crate cite besides the paper.
 pub mod Values
+pub mod Lent

@@ -1,82 +1,85 @@
-// The values of variables in two lent rooms. Only `at` and `put` see two rooms; all else speaks of one list, `low.now ++ high.now`.
+// The values of variables in two lent rooms. Only `at` and `put` see two rooms; all else speaks of one list, the bytes of both.
 #![tactic(auto)]
 
-ghost use Rattle.std.specs.Prelude.{◌≡◌, ◌++◌, get_or, set};
+ghost use Rattle.std.specs.Prelude.{◌≡◌, get_or, set};
 ghost use Rattle.paper.specs.Clauses.{variable};
 ghost use Rattle.paper.specs.Derivation.{is, assign as assignment};
 ghost use Rattle.values.specs.Values.{code, literal_in, assigned_in, unassigned_in};
+ghost use Rattle.values.specs.Lent.{bytes, known, SameValues};
 
-// The byte of a variable; 0 where it has no place.
-pub fn at(low: &[u8], high: &[u8], variable: u32) -> u8
-    ensures { result ≡ get_or (low.now ++ high.now) variable 0 }
-{
-    let place = variable as usize;
-    if place < low.len() {
-        return low[place];
-    }
-    let rest = place - low.len();
-    if rest < high.len() {
-        return high[rest];
-    }
-    0
-}
-
-// A variable that has no place is left alone.
-pub fn put(low: &mut [u8], high: &mut [u8], variable: u32, byte: u8)
-    ensures { low.new ++ high.new ≡ set (low.old ++ high.old) variable byte }
-{
-    let place = variable as usize;
-    if place < low.len() {
-        low[place] = byte;
-        return;
-    }
-    let rest = place - low.len();
-    if rest < high.len() {
-        high[rest] = byte;
-    }
+// The two rooms, a byte to a variable: 0 unassigned, 1 true, 2 false. One room for all would pass 64 KiB.
+#[derive(Drop)]
+pub struct ValueRooms<'a> {
+    pub low: &'a mut [u8],
+    pub high: &'a mut [u8],
 }
 
 // The byte of a literal's variable where the literal has this truth.
 pub fn byte_for(literal: i32, truth: bool) -> u8
     ensures { result ≡ code (is (assignment literal truth).value) }
 {
-    if variables::is_negative(literal) {
-        if truth {
-            return 2;
+    if variables::is_negative(literal) != truth {
+        1
+    } else {
+        2
+    }
+}
+
+impl ValueRooms<'_> {
+    // The byte of a variable; 0 where it has no place.
+    pub fn at(&self, variable: u32) -> u8
+        ensures { result ≡ get_or (bytes self.now) variable 0 }
+    {
+        let place = variable as usize;
+        if place < self.low.len() {
+            return self.low[place];
         }
-        return 1;
+        let rest = place - self.low.len();
+        if rest < self.high.len() {
+            return self.high[rest];
+        }
+        0
     }
-    if truth {
-        return 1;
+
+    // A variable that has no place is left alone.
+    pub fn put(&mut self, variable: u32, byte: u8)
+        ensures same { SameValues self.old self.new }
+        ensures put { bytes self.new ≡ set (bytes self.old) variable byte }
+    {
+        let place = variable as usize;
+        if place < self.low.len() {
+            self.low[place] = byte;
+            return;
+        }
+        let rest = place - self.low.len();
+        if rest < self.high.len() {
+            self.high[rest] = byte;
+        }
     }
-    2
-}
 
-// The value of a literal: 0 unassigned, 1 true, 2 false.
-pub fn value(low: &[u8], high: &[u8], literal: i32) -> u8
-    ensures { result ≡ code (literal_in (low.now ++ high.now) literal) }
-{
-    let variable = variables::variable_of(literal);
-    let byte = at(low, high, variable);
-    if byte == 0 {
-        return 0;
+    // The truth of a literal, none where it is unassigned.
+    pub fn value(&self, literal: i32) -> Option<bool>
+        ensures { known result ≡ literal_in (bytes self.now) literal }
+    {
+        let byte = self.at(variables::variable_of(literal));
+        if byte == 0 {
+            return None;
+        }
+        Some((byte == 1) != variables::is_negative(literal))
     }
-    byte_for(literal, byte == 1)
-}
 
-pub fn assign(low: &mut [u8], high: &mut [u8], literal: i32, truth: bool)
-    ensures { low.new ++ high.new
-        ≡ assigned_in (low.old ++ high.old) (assignment literal truth) }
-{
-    let variable = variables::variable_of(literal);
-    let byte = byte_for(literal, truth);
-    put(low, high, variable, byte);
-}
+    pub fn assign(&mut self, literal: i32, truth: bool)
+        ensures same { SameValues self.old self.new }
+        ensures assigned { bytes self.new ≡ assigned_in (bytes self.old) (assignment literal truth) }
+    {
+        let byte = byte_for(literal, truth);
+        self.put(variables::variable_of(literal), byte);
+    }
 
-pub fn unassign(low: &mut [u8], high: &mut [u8], literal: i32)
-    ensures { low.new ++ high.new
-        ≡ unassigned_in (low.old ++ high.old) (variable literal) }
-{
-    let variable = variables::variable_of(literal);
-    put(low, high, variable, 0);
+    pub fn unassign(&mut self, literal: i32)
+        ensures same { SameValues self.old self.new }
+        ensures unassigned { bytes self.new ≡ unassigned_in (bytes self.old) (variable literal) }
+    {
+        self.put(variables::variable_of(literal), 0);
+    }
 }

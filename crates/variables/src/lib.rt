@@ -6,15 +6,11 @@ ghost use Rattle.paper.specs.Clauses.{variable, every};
 ghost use Rattle.paper.specs.Session.{problem_literal};
 ghost use Rattle.variables.specs.Literals.{negative};
 
-// By complement and not by negation: the least i32 has no negative.
+// The least i32 has a variable too: its absolute value fits a u32.
 pub fn variable_of(literal: i32) -> u32
     ensures { result ≡ variable literal }
 {
-    if literal < 0 {
-        (!literal) as u32 + 1
-    } else {
-        literal as u32
-    }
+    literal.unsigned_abs()
 }
 
 pub fn is_negative(literal: i32) -> bool
@@ -28,22 +24,13 @@ fn problem_literal(variables: u32, literal: i32) -> bool
     ensures { result ≡ problem_literal variables literal }
 {
     let variable = variable_of(literal);
-    if variable < 1 {
-        return false;
-    }
-    variable <= variables
+    1 <= variable && variable <= variables
 }
 
 pub fn all_problem(variables: u32, clause: &[i32]) -> bool
     ensures { result ≡ every (problem_literal variables) clause.now }
 {
-    let mut i: usize = 0;
-    while i < clause.len() {
-        let literal = clause[i];
-        if !problem_literal(variables, literal) {
-            return false;
-        }
-        i += 1;
-    }
-    true
+    clause
+        .iter()
+        .all(|literal| problem_literal(variables, *literal))
 }

@@ -1,13 +1,10 @@
 -- The clauses of a text, one after the other: what is taken so far, and how it ends.
-use mathlib.Core.Path.{◌≡◌, refl, sym, ap, ◌∙◌}
-use mathlib.Core.Bool.{Bool, true, false}
+use mathlib.Core.Path.{◌≡◌, sym, ap, ◌∙◌}
 use mathlib.Core.List.{List, [], ◌∷◌, ◌++◌, append_assoc, append-nil}
-use mathlib.Core.Logic.{◌≢◌}
 use Prim.Native.Nat.{ℕ, suc, ◌+◌}
 use native.Mathlib.Omega.{arith}
-use lib.Dec.{eqb}
 use lib.ListN.{length, length-append}
-use borrow.Author.Tests.{eqb-true, eqb-false, eq-eqb, ne_eqb}
+use borrow.Author.Tests.{eq-eqb, ne_eqb}
 use Rattle.paper.specs.declared.Header.{Header}
 use Rattle.paper.specs.Records.{Record}
 use Rattle.paper.specs.Texts.{Result, fault, between, read_on, open_record, record_bytes, all_bytes}
@@ -15,8 +12,7 @@ use Rattle.words.specs.Words.{words_at}
 use Rattle.output.specs.Puts.{Put, Puts}
 use Rattle.output.proofs.Rooms.{puts_none, puts_more}
 use Rattle.wcnf.specs.declared.Step.{Step}
-use Rattle.wcnf.specs.Steps.{clause_from, Taken, Came}
-use Rattle.wcnf.proofs.Laws.{fault_step}
+use Rattle.wcnf.specs.Steps.{clause_from, Taken, Made}
 
 -- The records so far stand in the room, and the words from `place` on lead to the same as all of them.
 pub record SoFar (text : List ℕ) (h : Header) (from : ℕ) (room room' : List ℕ) (end place clauses : ℕ) : Type 0 where
@@ -33,15 +29,6 @@ opened room r end room' p = rw (append-nil (record_bytes r)) (puts_more (puts_no
 all_more : (rs : List Record) (r : Record) → all_bytes (rs ++ (r ∷ [])) ≡ all_bytes rs ++ record_bytes r
 all_more [] r = append-nil (record_bytes r)
 all_more (x ∷ rs) r = rw (all_more rs r, append_assoc (record_bytes x) (all_bytes rs) (record_bytes r))
-
-pub came_fault : (result : Result) (room : List ℕ) (r : Step) (room' : List ℕ) (n p : ℕ) → r ≡ fault_step n p → n ≢ 0
-    → length room' ≡ length room → result ≡ fault n p → Came result room r room'
-came_fault result room r room' n p e some size is =
-    record {
-      size = size;
-      faulty = λ k. is ∙ rw e;
-      sound = λ z. absurd (some (sym (ap (λ (s : Step). s.number) e) ∙ z));
-    }
 
 module _ {text : List ℕ} {h : Header} {from : ℕ} {room room' : List ℕ} {end place clauses : ℕ}
     (S : SoFar text h from room room' end place clauses) where
@@ -63,25 +50,12 @@ module _ {text : List ℕ} {h : Header} {from : ℕ} {room room' : List ℕ} {en
       → read_on h (length text) between S.done (clause_from text start stop) ≡ fault n p → whole ≡ fault n p
   broken start stop n p words is = S.goes ∙ rw words is
 
-  pub over : (r : Step) → words_at text place ≡ []
-      → (h.clauses ≡ clauses → (r.number ≡ 0) × (r.written ≡ end))
-      → ((h.clauses ≡ clauses → ⊥) → (r.number ≡ 33) × (r.position ≡ length text)) → Came whole room r room'
-  over r none right wrong = go (eqb h.clauses clauses) refl
-    where
-      go : (b : Bool) → eqb h.clauses clauses ≡ b → Came whole room r room'
-      go true e =
-          let same = eqb-true h.clauses clauses e in
-          let all = eq-eqb (length S.done) (suc h.clauses) (S.count ∙ ap suc (sym same)) in
-          record {
-            size = S.stand.same_length;
-            faulty = λ k. absurd (k (right same).0);
-            sound = λ z. record { made = S.done; is = S.goes ∙ rw (none, all); stand = rw (right same).1 S.stand };
-          }
-      go false e =
-          let other = eqb-false h.clauses clauses e in
-          let few = ne_eqb (length S.done) (suc h.clauses) (λ k. other (omega (arith, k, S.count))) in
-          record {
-            size = S.stand.same_length;
-            faulty = λ k. S.goes ∙ rw (none, few, (wrong other).0, (wrong other).1);
-            sound = λ z. absurd (omega (arith, z, (wrong other).0));
-          }
+  pub all_there : words_at text place ≡ [] → h.clauses ≡ clauses → Made whole room end room'
+  all_there none same =
+      let all = eq-eqb (length S.done) (suc h.clauses) (S.count ∙ ap suc (sym same)) in
+      record { made = S.done; is = S.goes ∙ rw (none, all); stand = S.stand }
+
+  pub wrong_count : words_at text place ≡ [] → (h.clauses ≡ clauses → ⊥) → whole ≡ fault 33 (length text)
+  wrong_count none other =
+      let few = ne_eqb (length S.done) (suc h.clauses) (λ k. other (omega (arith, k, S.count))) in
+      S.goes ∙ rw (none, few)

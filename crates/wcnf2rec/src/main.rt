@@ -8,7 +8,7 @@ use std::io;
 use std::io::{Eprint, Print};
 
 // Where a byte of a text stands, both counted from 1.
-#[derive(Clone, Copy)]
+#[derive(Clone, Copy, Debug, PartialEq, Eq)]
 struct Spot {
     line: usize,
     column: usize,
@@ -18,22 +18,18 @@ struct Spot {
 fn spot_of(text: &[u8], position: usize) -> Spot {
     let mut line: usize = 1;
     let mut column: usize = 1;
-    let mut place: usize = 0;
-    while place < position && place < text.len() {
+    for byte in &text[..position.min(text.len())] {
         column += 1;
-        if text[place] == b'\n' {
+        if *byte == b'\n' {
             line += 1;
             column = 1;
         }
-        place += 1;
     }
-    Spot {
-        line: line,
-        column: column,
-    }
+    Spot { line, column }
 }
 
-// 34 is not among them: the room is long enough for any text.
+// 34 is not among them: the room is long enough for any text. The number is the answer's, which has the form of the C interface; a
+// type with a Display would be made of it only to print the same words.
 fn reason_of(number: u32) -> &'static str {
     match number {
         14 => "the number of variables is not 1 to 2000",

@@ -21,6 +21,9 @@ use Rattle.weigh.proofs.ByPlace.{sum_by_place}
 use Rattle.weigh.specs.Marks.{Marked, broken_mark, OverWishes, OverCounters}
 
 module _ (s : Session) (reached : Reached s) (tally : Tally) (eq : tally ≡ tally_of s) where
+  pub few_wishes_lem : tally.wishes ≤ wish_room.clauses
+  few_wishes_lem = let k = ap (λ (x : Tally). x.wishes) eq in omega (arith, (reached_sound s reached).few)
+
   module _ (u : Width) (is : u ≡ narrow) where
     width_is : u ≡ s.sheet.width
     width_is = is ∙ sym (reached_narrow s reached)

@@ -4,7 +4,7 @@
 // zeros before and after: a byte to a wish, 1 where it is broken, and a byte to a counter, how many of its inputs are true.
 #![tactic(auto)]
 
-ghost use Rattle.std.specs.Prelude.{◌≡◌, true, map, ℕ, ◌+◌, ◌*◌, ◌^◌, ◌<◌, ◌≤◌, length, take, get_or, set, replicate};
+ghost use Rattle.std.specs.Prelude.{◌≡◌, true, map, ℕ, ◌+◌, ◌*◌, ◌^◌, ◌<◌, ◌≤◌, length, take, replicate};
 ghost use Rattle.paper.specs.Sizes.{wish_room, wish_variable, counter_start, numbers_end};
 ghost use Rattle.paper.specs.Clauses.{Truth, only};
 ghost use Rattle.paper.specs.Session.{Session, tally_of, remaining};
@@ -16,62 +16,20 @@ ghost use Rattle.rooms.specs.Held.{HeldIn, HeldCounters, HeldWeights, wish_famil
 ghost use Rattle.weigh.specs.Weighing.{wish_sum, output_sum, counter_sum};
 ghost use Rattle.weigh.specs.Marks.{Marked, inputs_at, broken_mark, count_mark, truth_in, input_truth, OverWishes, OverCounters};
 
-use paper::{Tally, Width};
-
-const FIRST_WISH: u32 = 2001;
-
-const FIRST_COUNTER: u32 = 4001;
+use clauses::FamilyRooms;
+use paper::{FIRST_COUNTER, FIRST_WISH, Tally, Width};
 
 const MOST_WISHES: u32 = 512;
 
 const MOST_INPUTS: usize = 255;
-
-// ── Places ──
-
-// A call, so that the bound on a number of 32 bits comes with it.
-fn wide(number: u32) -> u64
-    ensures { (result ≡ number) × (result < 2 ^ 32) }
-{
-    number as u64
-}
-
-// Past its end a room reads as 0, and a store there is lost.
-fn weight_at(room: &[u32], at: usize) -> u64
-    ensures { (result ≡ get_or room.now at 0) × (result < 2 ^ 32) }
-{
-    if at < room.len() {
-        return wide(room[at]);
-    }
-    0
-}
-
-fn byte_at(room: &[u8], at: usize) -> u8
-    ensures { result ≡ get_or room.now at 0 }
-{
-    if at < room.len() {
-        return room[at];
-    }
-    0
-}
-
-fn put_at(room: &mut [u8], at: usize, byte: u8)
-    ensures { room.new ≡ set room.old at byte }
-{
-    if at < room.len() {
-        room[at] = byte;
-    }
-}
 
 // A work room whose marks end at `count` is all zeros after this.
 fn clear(room: &mut [u8], count: u32)
     ensures { (size : ℕ) (f : ℕ → ℕ) → Marked size room.old count f
         → room.new ≡ replicate size 0 }
 {
-    let mut cleared: u32 = 0;
-    while cleared < count {
-        put_at(room, cleared as usize, 0);
-        cleared += 1;
-    }
+    let end = room.len().min(count as usize);
+    room[..end].fill(0);
 }
 
 // ── Wishes ──
@@ -79,72 +37,70 @@ fn clear(room: &mut [u8], count: u32)
 // Marks one wish where it is broken, and gives the remaining weight of its variable where that is true.
 fn weigh_wish(
     count: u32,
-    literals: &[i32],
-    ends: &[u32],
+    wishes: FamilyRooms,
     left: &[u32],
     arrangement: &[u8],
     broken: &mut [u8],
     number: u32,
 ) -> u64
     ensures { (result < 2 ^ 32) × ((s : Session) (t : Truth) (f : ℕ → ℕ) (size : ℕ)
-        → OverWishes s (arranged arrangement.now) t f size count literals.now ends.now
-        left.now
+        → OverWishes s (arranged arrangement.now) t f size count
+        wishes.entry.literals.now wishes.entry.ends.now left.now
         → number < count → Marked size broken.old number (broken_mark t)
         → Marked size broken.new (number + 1) (broken_mark t)
         × (result ≡ only (t (wish_variable number)) (f (wish_variable number)))) }
 {
-    let clause = clauses::clause_of(literals, ends, count, number);
-    if judge::clause_holds(arrangement, clause) {
+    if judge::clause_holds(arrangement, wishes.clause(count, number)) {
         return 0;
     }
-    put_at(broken, number as usize, 1);
-    weight_at(left, number as usize)
+    let place = number as usize;
+    // By its index: a proof does not know what is written through a slice's `get_mut`.
+    if place < broken.len() {
+        broken[place] = 1;
+    }
+    u64::from(left.get(place).copied().unwrap_or(0))
 }
 
 // In 64 bits no sum over a count of 32 bits wraps, whatever the rooms hold.
 fn weigh_wishes(
     count: u32,
-    literals: &[i32],
-    ends: &[u32],
+    wishes: FamilyRooms,
     left: &[u32],
     arrangement: &[u8],
     broken: &mut [u8],
 ) -> u64
     ensures { (result ≤ 2 ^ 32 * count) × ((s : Session) (t : Truth) (f : ℕ → ℕ) (size : ℕ)
-        → OverWishes s (arranged arrangement.now) t f size count literals.now ends.now
-        left.now
+        → OverWishes s (arranged arrangement.now) t f size count
+        wishes.entry.literals.now wishes.entry.ends.now left.now
         → Marked size broken.old 0 (broken_mark t)
         → Marked size broken.new count (broken_mark t) × (result ≡ wish_sum t f count)) }
 {
     let mut sum: u64 = 0;
-    let mut number: u32 = 0;
-    while number < count {
-        sum += weigh_wish(count, literals, ends, left, arrangement, broken, number);
-        number += 1;
+    for number in 0..count {
+        sum += weigh_wish(count, wishes, left, arrangement, broken, number);
     }
     sum
 }
 
 // ── Counters ──
 
-// A wish variable is true where its wish is broken, output k of a root, from 0, where more than k inputs are true.
+// A wish variable is true where its wish is broken, output k of a root, from 0, where more than k inputs are true. That the stride is
+// not 0 is a premise here and below, and no part of `Width`: the definitions speak of every width.
 fn truth_of(width: Width, broken: &[u8], counts: &[u8], variable: u32) -> u8
     requires { 0 < width.stride }
     ensures { result ≡ truth_in width broken.now counts.now variable }
 {
+    if variable < FIRST_WISH {
+        return 0;
+    }
     if variable < FIRST_COUNTER {
-        if variable < FIRST_WISH {
-            return 0;
-        }
-        return byte_at(broken, (variable - FIRST_WISH) as usize);
+        let number = (variable - FIRST_WISH) as usize;
+        return broken.get(number).copied().unwrap_or(0);
     }
     let past = variable - FIRST_COUNTER;
-    let stride = width.stride;
-    let count = byte_at(counts, wide(past / stride) as usize);
-    if past % stride < count as u32 {
-        return 1;
-    }
-    0
+    let counter = (past / width.stride) as usize;
+    let count = counts.get(counter).copied().unwrap_or(0);
+    u8::from(past % width.stride < u32::from(count))
 }
 
 // The truth of each input, in its order.
@@ -153,11 +109,9 @@ fn gather(width: Width, inputs: &[i32], broken: &[u8], counts: &[u8], truths: &m
     ensures { take (length inputs.now) truths.new
         ≡ map (input_truth width broken.now counts.now) inputs.now }
 {
-    let mut gathered: usize = 0;
-    while gathered < inputs.len() {
-        let input = variables::variable_of(inputs[gathered]);
-        truths[gathered] = truth_of(width, broken, counts, input);
-        gathered += 1;
+    for (place, input) in inputs.iter().enumerate() {
+        let variable = variables::variable_of(*input);
+        truths[place] = truth_of(width, broken, counts, variable);
     }
 }
 
@@ -182,7 +136,7 @@ fn true_count(width: Width, inputs: &[i32], broken: &[u8], counts: &[u8]) -> u8
 fn first_place(literals: u32, counter: u32) -> usize
     ensures { (result ≡ literals * counter) × (result + 256 < 2 ^ 64) }
 {
-    (wide(literals) * wide(counter)) as usize
+    literals as usize * counter as usize
 }
 
 // The remaining weight on the first `count` outputs of a root.
@@ -192,12 +146,9 @@ fn outputs_weight(width: Width, outputs: &[u32], counter: u32, count: u8) -> u64
         → result ≡ output_sum (λ v. true) f (counter_start width counter) count) }
 {
     let first = first_place(width.literals, counter);
-    let end = count as usize;
     let mut sum: u64 = 0;
-    let mut output: usize = 0;
-    while output < end {
-        sum += weight_at(outputs, first + output);
-        output += 1;
+    for output in 0..usize::from(count) {
+        sum += u64::from(outputs.get(first + output).copied().unwrap_or(0));
     }
     sum
 }
@@ -207,8 +158,7 @@ fn outputs_weight(width: Width, outputs: &[u32], counter: u32, count: u8) -> u64
 fn weigh_counter(
     width: Width,
     count: u32,
-    inputs: &[i32],
-    ends: &[u32],
+    counters: FamilyRooms,
     outputs: &[u32],
     broken: &[u8],
     counts: &mut [u8],
@@ -216,15 +166,18 @@ fn weigh_counter(
 ) -> u64
     requires { 0 < width.stride }
     ensures { (result ≤ 2 ^ 40) × ((s : Session) (a t : Truth) (f : ℕ → ℕ) (size : ℕ)
-        → OverCounters s a t f width size count inputs.now ends.now outputs.now
-        broken.now
+        → OverCounters s a t f width size count
+        counters.entry.literals.now counters.entry.ends.now outputs.now broken.now
         → number < count → Marked size counts.old number (count_mark s t)
         → Marked size counts.new (number + 1) (count_mark s t)
         × (result ≡ output_sum t f (counter_start width number) (length (inputs_at s number)))) }
 {
-    let clause = clauses::clause_of(inputs, ends, count, number);
-    let true_inputs = true_count(width, clause, broken, counts);
-    put_at(counts, number as usize, true_inputs);
+    let true_inputs = true_count(width, counters.clause(count, number), broken, counts);
+    let place = number as usize;
+    // By its index: a proof does not know what is written through a slice's `get_mut`.
+    if place < counts.len() {
+        counts[place] = true_inputs;
+    }
     outputs_weight(width, outputs, number, true_inputs)
 }
 
@@ -232,25 +185,22 @@ fn weigh_counter(
 fn weigh_counters(
     width: Width,
     count: u32,
-    inputs: &[i32],
-    ends: &[u32],
+    counters: FamilyRooms,
     outputs: &[u32],
     broken: &[u8],
     counts: &mut [u8],
 ) -> u64
     requires { (0 < width.stride) × (count ≤ 2 ^ 16) }
     ensures { (result ≤ 2 ^ 40 * count) × ((s : Session) (a t : Truth) (f : ℕ → ℕ) (size : ℕ)
-        → OverCounters s a t f width size count inputs.now ends.now outputs.now
-        broken.now
+        → OverCounters s a t f width size count
+        counters.entry.literals.now counters.entry.ends.now outputs.now broken.now
         → Marked size counts.old 0 (count_mark s t)
         → Marked size counts.new count (count_mark s t)
         × (result ≡ counter_sum width s.work.counters t f count)) }
 {
     let mut sum: u64 = 0;
-    let mut number: u32 = 0;
-    while number < count {
-        sum += weigh_counter(width, count, inputs, ends, outputs, broken, counts, number);
-        number += 1;
+    for number in 0..count {
+        sum += weigh_counter(width, count, counters, outputs, broken, counts, number);
     }
     sum
 }
@@ -258,13 +208,12 @@ fn weigh_counters(
 // ── An arrangement ──
 
 // The bound plus the remaining weight on the variables that are true of the arrangement, which is its cost where it meets the
-// rules. No reached session has more wishes or counters than the sizes allow; where the tally counts more, the answer is 0.
+// rules. No reached session has more wishes or counters than the sizes allow; where the tally counts more, the answer is 0, for
+// `weigh` has a sum to give for every tally.
 pub fn weigh(
     tally: Tally,
-    wish_literals: &[i32],
-    wish_ends: &[u32],
-    inputs: &[i32],
-    counter_ends: &[u32],
+    wishes: FamilyRooms,
+    counters: FamilyRooms,
     left: &[u32],
     outputs: &[u32],
     arrangement: &[u8],
@@ -272,8 +221,8 @@ pub fn weigh(
     counts: &mut [u8],
 ) -> u64
     ensures { (s : Session) (n m : ℕ) → Reached s → tally ≡ tally_of s
-        → HeldIn wish_room wish_literals.now wish_ends.now (wish_family s.sheet.wishes)
-        → HeldCounters inputs.now counter_ends.now s
+        → HeldIn wish_room wishes.entry.literals.now wishes.entry.ends.now (wish_family s.sheet.wishes)
+        → HeldCounters counters.entry.literals.now counters.entry.ends.now s
         → HeldWeights left.now outputs.now s
         → broken.old ≡ replicate n 0 → length s.sheet.wishes ≤ n
         → counts.old ≡ replicate m 0 → length s.work.counters ≤ m
@@ -284,17 +233,12 @@ pub fn weigh(
         → result ≡ cost s.sheet (arranged arrangement.now)) }
 {
     let width = openings::width_of(tally);
-    let wishes = tally.wishes;
-    let count = tally.counters;
-    if MOST_WISHES < wishes {
+    if MOST_WISHES < tally.wishes || width.counters < tally.counters {
         return 0;
     }
-    if width.counters < count {
-        return 0;
-    }
-    let on_wishes = weigh_wishes(wishes, wish_literals, wish_ends, left, arrangement, broken);
-    let on_outputs = weigh_counters(width, count, inputs, counter_ends, outputs, broken, counts);
-    clear(broken, wishes);
-    clear(counts, count);
-    wide(tally.bound) + on_wishes + on_outputs
+    let on_wishes = weigh_wishes(tally.wishes, wishes, left, arrangement, broken);
+    let on_outputs = weigh_counters(width, tally.counters, counters, outputs, broken, counts);
+    clear(broken, tally.wishes);
+    clear(counts, tally.counters);
+    u64::from(tally.bound) + on_wishes + on_outputs
 }

@@ -2,30 +2,24 @@
 use mathlib.Core.Path.{◌≡◌, refl, ap, subst, ◌∙◌}
 use mathlib.Core.Bool.{Bool, true, false}
 use mathlib.Core.Logic.{◌⊎◌, inl, inr}
-use Prim.Native.Nat.{ℕ, zero, suc, ◌+◌, ◌-◌, ◌*◌, ◌/◌, ◌%◌, ◌^◌, ◌<◌, ◌≤◌}
-use native.Mathlib.Nat.{mul-le-mul, mul-add-div, mul-add-mod_self_left, div-eq_of_lt, mod-eq_of_lt, mod-lt, div-add-mod}
+use Prim.Native.Nat.{ℕ, zero, suc, ◌+◌, ◌-◌, ◌*◌, ◌/◌, ◌%◌, ◌<◌, ◌≤◌}
+use native.Mathlib.Nat.{mul-add-div, mul-add-mod_self_left, div-eq_of_lt, mod-eq_of_lt, mod-lt, div-add-mod}
 use native.Mathlib.Omega.{arith}
 use lib.Dec.{ltb}
 use borrow.Author.Tests.{ltb-true, ltb-false, lt-ltb, le-ltb}
+use Rattle.std.specs.Prelude.{Option, Some, None}
 use Rattle.paper.specs.Sizes.{wish_room, first_wish, wish_variable, first_counter, counter_start}
 use Rattle.paper.specs.declared.Width.{Width}
 use Rattle.paper.specs.Clauses.{pick}
 use Rattle.weights.specs.Weights.{Spaced, output_variable, output_places, place_of, in_room, placed}
 use Rattle.weights.specs.declared.Place.{Place}
-use Rattle.weights.specs.declared.Place.TheVariants.{InWishes, InOutputs, Nowhere}
+use Rattle.weights.specs.declared.Place.TheVariants.{InWishes, InOutputs}
 
 pub quotient : (d q r : ℕ) → r < d → (d * q + r) / d ≡ q
 quotient d q r h = let e = mul-add-div {m = d} (omega arith) q r in let z = div-eq_of_lt h in omega arith
 
 pub remainder : (d q r : ℕ) → r < d → (d * q + r) % d ≡ r
 remainder d q r h = mul-add-mod_self_left d q r ∙ mod-eq_of_lt h
-
--- The place of an output, at any width.
-pub place_fits : (a b t : ℕ) → a < 2 ^ 32 → b < 2 ^ 32 → t < 2 ^ 32 → a * b + t < 2 ^ 64
-place_fits a b t h k l =
-    let m : a * b ≤ 4294967295 * 4294967295 =
-    mul-le-mul {n₁ = a} {m₁ = b} {n₂ = 4294967295} {m₂ = 4294967295} (omega arith) (omega arith) in
-    omega arith
 
 module _ (u : Width) where
   some_literals : (i : ℕ) → i < output_places u → 0 < u.literals
@@ -42,10 +36,10 @@ module _ (u : Width) where
   -- ── From the variable ──
 
   -- What the place of a variable says of it.
-  abbrev pub Stands : ℕ → Place → Type 0
-  Stands v (InWishes j) = (v ≡ wish_variable j) × (v < first_counter)
-  Stands v (InOutputs i) = (v ≡ output_variable u i) × (0 < u.literals)
-  Stands v Nowhere = (v < first_wish) ⊎ ((first_counter ≤ v) × (u.literals ≤ (v - first_counter) % u.stride))
+  abbrev pub Stands : ℕ → Option Place → Type 0
+  Stands v (Some (InWishes j)) = (v ≡ wish_variable j) × (v < first_counter)
+  Stands v (Some (InOutputs i)) = (v ≡ output_variable u i) × (0 < u.literals)
+  Stands v None = (v < first_wish) ⊎ ((first_counter ≤ v) × (u.literals ≤ (v - first_counter) % u.stride))
 
   pub stands : (v : ℕ) → Stands v (place_of u v)
   stands v = go (ltb v first_counter) refl (ltb v first_wish) refl (ltb (past % u.stride) u.literals) refl
@@ -55,8 +49,8 @@ module _ (u : Width) where
 
       go : (a : Bool) → ltb v first_counter ≡ a → (b : Bool) → ltb v first_wish ≡ b
           → (d : Bool) → ltb (past % u.stride) u.literals ≡ d
-          → Stands v (pick a (pick b Nowhere (InWishes (v - first_wish)))
-          (pick d (InOutputs (u.literals * (past / u.stride) + past % u.stride)) Nowhere))
+          → Stands v (pick a (pick b None (Some (InWishes (v - first_wish))))
+          (pick d (Some (InOutputs (u.literals * (past / u.stride) + past % u.stride))) None))
       go true p true q d r = inl (ltb-true v first_wish q)
       go true p false q d r = let low = ltb-true v first_counter p in let high = ltb-false v first_wish q in (omega arith, low)
       go false p b q true r =
@@ -66,10 +60,10 @@ module _ (u : Width) where
           (rw (output_at (past / u.stride) (past % u.stride) within) (omega arith), omega arith)
       go false p b q false r = inr (ltb-false v first_counter p, ltb-false _ _ r)
 
-  pub wish_is : (v j : ℕ) → place_of u v ≡ InWishes j → (v ≡ wish_variable j) × (v < first_counter)
+  pub wish_is : (v j : ℕ) → place_of u v ≡ Some (InWishes j) → (v ≡ wish_variable j) × (v < first_counter)
   wish_is v j e = subst (Stands v) e (stands v)
 
-  pub output_is : (v i : ℕ) → place_of u v ≡ InOutputs i → v ≡ output_variable u i
+  pub output_is : (v i : ℕ) → place_of u v ≡ Some (InOutputs i) → v ≡ output_variable u i
   output_is v i e = (subst (Stands v) e (stands v)).0
 
   -- ── From the place ──
@@ -81,7 +75,7 @@ module _ (u : Width) where
       (lt-ltb j wish_room.clauses h)
 
   module _ (spaced : Spaced u) where
-    output_place : (i : ℕ) → 0 < u.literals → place_of u (output_variable u i) ≡ InOutputs i
+    output_place : (i : ℕ) → 0 < u.literals → place_of u (output_variable u i) ≡ Some (InOutputs i)
     output_place i some =
         let k = mod-lt i some in
         let m : i % u.literals < u.stride = omega arith in

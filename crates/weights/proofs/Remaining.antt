@@ -1,6 +1,6 @@
 -- The remaining weights of a session that steps have reached: none where the rooms have no place, and after each step what the
 -- functions of this crate leave.
-use mathlib.Core.Path.{◌≡◌, refl, fun_ext}
+use mathlib.Core.Path.{◌≡◌, refl, sym, fun_ext}
 use mathlib.Core.Bool.{Bool, true, false, not, ◌&&◌}
 use mathlib.Core.List.{List, [], ◌∷◌, map}
 use mathlib.Core.Logic.{⊎_elim}
@@ -10,9 +10,11 @@ use native.Mathlib.Omega.{arith}
 use lib.Dec.{ltb, leb}
 use lib.ListN.{length, get_or, replicate, length-map}
 use borrow.Author.Tests.{ltb-true, ltb-false, leb-true}
+use Rattle.std.specs.Prelude.{Option, Some, None}
+use Rattle.std.proofs.lemmas.Option.{none-some}
 use Rattle.paper.specs.Sizes.{narrow, wish_room, first_wish, wish_variable, first_counter, counter_start}
 use Rattle.paper.specs.declared.Width.{Width}
-use Rattle.paper.specs.Clauses.{Clause, variable, every, variable_twice}
+use Rattle.paper.specs.Clauses.{Clause, variable, every, variable_twice, pick}
 use Rattle.paper.specs.Session.{Counter, Sheet, Work, Session, blank, no_work}
 use Rattle.paper.specs.Session.{spread, upper_outputs, counter_gives, given, remaining}
 use Rattle.paper.specs.Steps.{core, accepted, next, add_rule, add_wish, add_derived, relax}
@@ -29,11 +31,11 @@ use Rattle.paper.proofs.Reach.{next_reached}
 use Rattle.weights.specs.Weights.{Spaced, output_places, Weighs, place_of, in_room, placed, Elsewhere}
 use Rattle.weights.specs.Weights.{gained, lost, least_member}
 use Rattle.weights.specs.declared.Place.{Place}
-use Rattle.weights.specs.declared.Place.TheVariants.{InWishes, InOutputs, Nowhere}
+use Rattle.weights.specs.declared.Place.TheVariants.{InWishes, InOutputs}
 use Rattle.weights.proofs.Places.{Stands, stands}
 use Rattle.weights.proofs.Spreads.{upper_past}
 use Rattle.weights.proofs.Rooms.{zeros_weigh}
-use Rattle.weights.proofs.Members.{some_least, spread_none}
+use Rattle.weights.proofs.Members.{spread_none}
 
 pub narrow_spaced : Spaced narrow
 narrow_spaced = omega arith
@@ -104,8 +106,8 @@ module _ (S : Sheet) (W : Work) (sound : Sound S W) where
   given_none : (v : ℕ) → placed S.width v ≡ false → given S W v ≡ 0
   given_none v e = go (place_of S.width v) (stands S.width v) e
     where
-      go : (p : Place) → Stands S.width v p → in_room S.width p ≡ false → given S W v ≡ 0
-      go (InWishes j) at e =
+      go : (p : Option Place) → Stands S.width v p → in_room S.width p ≡ false → given S W v ≡ 0
+      go (Some (InWishes j)) at e =
           let is = at.0 in
           let low = at.1 in
           let far = ltb-false j wish_room.clauses e in
@@ -114,7 +116,7 @@ module _ (S : Sheet) (W : Work) (sound : Sound S W) where
             wishes_above S.wishes first_wish v (omega arith),
             counters_below S.width.stride W.counters first_counter v (omega arith),
           )
-      go (InOutputs i) at e =
+      go (Some (InOutputs i)) at e =
           let is = at.0 in
           let few = sound.few_counters in
           let past = ltb-false i (output_places S.width) e in
@@ -123,7 +125,7 @@ module _ (S : Sheet) (W : Work) (sound : Sound S W) where
           let reach : S.width.stride * length W.counters ≤ S.width.stride * (i / S.width.literals) =
           mul-le-mul_left S.width.stride (omega arith) in
           given_past v (omega arith)
-      go Nowhere at e =
+      go None at e =
           ⊎_elim
           (λ low.
           rw (
@@ -170,19 +172,22 @@ module _ (S : Sheet) (W : Work) (sound : Sound S W) where
 -- ── The least weight of a core ──
 
 module _ (S : Sheet) (W : Work) (c : Clause) where
-  -- 0 exactly where 22 refuses.
-  pub least_refused : least_member (remaining S W) c ≡ 0 → core_form S W c ≡ false
-  least_refused e = go (core_form S W c) refl
+  -- None exactly where 22 refuses.
+  pub least_refused : least_member (remaining S W) c ≡ None → core_form S W c ≡ false
+  least_refused e = go (core_form S W c) e
     where
-      go : (b : Bool) → core_form S W c ≡ b → core_form S W c ≡ false
-      go true q = let some = some_least (remaining S W) c q in absurd (omega arith)
-      go false q = q
+      go : (b : Bool) → pick b (Some (least (remaining S W) (map variable c))) None ≡ None → b ≡ false
+      go true q = absurd (none-some (least (remaining S W) (map variable c)) (sym q))
+      go false q = refl
 
-  pub refused_least : core_form S W c ≡ false → least_member (remaining S W) c ≡ 0
-  refused_least e = rw e
-
-  pub core_least : core_form S W c ≡ true → least_member (remaining S W) c ≡ least (remaining S W) (map variable c)
-  core_least e = rw e
+  pub least_taken : (w : ℕ) → least_member (remaining S W) c ≡ Some w
+      → (core_form S W c ≡ true) × (w ≡ least (remaining S W) (map variable c))
+  least_taken w e = go (core_form S W c) e
+    where
+      go : (b : Bool) → pick b (Some (least (remaining S W) (map variable c))) None ≡ Some w
+          → (b ≡ true) × (w ≡ least (remaining S W) (map variable c))
+      go true q = (refl, cc)
+      go false q = absurd (none-some w q)
 
 -- ── After each step ──
 

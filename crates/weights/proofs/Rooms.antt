@@ -7,12 +7,13 @@ use native.Mathlib.Omega.{arith}
 use lib.Dec.{ltb}
 use lib.ListN.{length, get_or, set, replicate, get_or-eq_default}
 use borrow.Author.Tests.{ltb-true, ltb-false}
+use Rattle.std.specs.Prelude.{Option, Some, None}
 use Rattle.paper.specs.Sizes.{wish_room, wish_variable, first_counter, counter_start}
 use Rattle.paper.specs.declared.Width.{Width}
 use Rattle.weights.specs.Weights.{table, Spaced, output_variable, output_places, wish_table, output_table, Weighs}
 use Rattle.weights.specs.Weights.{place_of, in_room, placed, Elsewhere, gained, lost}
 use Rattle.weights.specs.declared.Place.{Place}
-use Rattle.weights.specs.declared.Place.TheVariants.{InWishes, InOutputs, Nowhere}
+use Rattle.weights.specs.declared.Place.TheVariants.{InWishes, InOutputs}
 use Rattle.weights.proofs.Tables.{length_table, get_d_table, table_same, set_table, zero_table}
 use Rattle.weights.proofs.Places.{output_at, wish_is, output_is, wish_placed, output_placed, outputs_apart}
 use Rattle.weights.proofs.Spreads.{spread_on, spread_off}
@@ -52,20 +53,20 @@ module _ (n : ℕ) (variableAt f : ℕ → ℕ) (room : List ℕ) (is : room ≡
 
 -- ── Both rooms ──
 
-abbrev weight_at : List ℕ → List ℕ → Place → ℕ
-weight_at wishes outputs (InWishes at) = get_or wishes at 0
-weight_at wishes outputs (InOutputs at) = get_or outputs at 0
-weight_at wishes outputs Nowhere = 0
+abbrev weight_at : List ℕ → List ℕ → Option Place → ℕ
+weight_at wishes outputs (Some (InWishes at)) = get_or wishes at 0
+weight_at wishes outputs (Some (InOutputs at)) = get_or outputs at 0
+weight_at wishes outputs None = 0
 
 module _ {u : Width} {wishes outputs : List ℕ} {f : ℕ → ℕ} (weighs : Weighs u wishes outputs f) where
-  pub weight_is : Elsewhere u f → (v : ℕ) (p : Place) → place_of u v ≡ p → weight_at wishes outputs p ≡ f v
-  weight_is none v (InWishes j) e =
+  pub weight_is : Elsewhere u f → (v : ℕ) (p : Option Place) → place_of u v ≡ p → weight_at wishes outputs p ≡ f v
+  weight_is none v (Some (InWishes j)) e =
       held_or_none wish_room.clauses wish_variable f wishes weighs.wishes_are j v (wish_is u v j e).0
       (λ q. none v (ap (in_room u) e ∙ q))
-  weight_is none v (InOutputs i) e =
+  weight_is none v (Some (InOutputs i)) e =
       held_or_none (output_places u) (output_variable u) f outputs weighs.outputs_are i v (output_is u v i e)
       (λ q. none v (ap (in_room u) e ∙ q))
-  weight_is none v Nowhere e = sym (none v (ap (in_room u) e))
+  weight_is none v None e = sym (none v (ap (in_room u) e))
 
   module _ (g : ℕ → ℕ) (x : ℕ) (else : (v : ℕ) → (v ≡ x → ⊥) → f v ≡ g v) where
     wishes_kept : ((j : ℕ) → j < wish_room.clauses → wish_variable j ≡ x → ⊥) → wishes ≡ wish_table g
@@ -112,7 +113,7 @@ module _ {u : Width} {wishes outputs : List ℕ} {f : ℕ → ℕ} (weighs : Wei
     gained_here : f x ≡ 0 → w ≡ gained f w (x ∷ []) x
     gained_here e = omega (arith, spread_on w x)
 
-    pub wish_lowered : (j : ℕ) → place_of u x ≡ InWishes j
+    pub wish_lowered : (j : ℕ) → place_of u x ≡ Some (InWishes j)
         → Weighs u (set wishes j (get_or wishes j 0 - w)) outputs (lost f w (x ∷ []))
     wish_lowered j e =
         let k = wish_is u x j e in
@@ -125,7 +126,7 @@ module _ {u : Width} {wishes outputs : List ℕ} {f : ℕ → ℕ} (weighs : Wei
     started j e h z = wish_stored (gained f w (x ∷ [])) x gained_else j w e (omega arith) (λ _. gained_here z)
 
     module _ (spaced : Spaced u) where
-      pub output_lowered : (i : ℕ) → place_of u x ≡ InOutputs i
+      pub output_lowered : (i : ℕ) → place_of u x ≡ Some (InOutputs i)
           → Weighs u wishes (set outputs i (get_or outputs i 0 - w)) (lost f w (x ∷ []))
       output_lowered i e =
           let k = output_is u x i e in

@@ -1,14 +1,14 @@
 -- Remaining weights in two rooms: a place for each wish variable, and for each counter as many places as a clause has literals at
 -- most, for the outputs of its root. The rooms are tables of a function of the variable, so that to say which weights they hold
 -- pins every byte of them.
-use Rattle.std.specs.Prelude.{◌≡◌, Bool, false, ◌&&◌, List, [], ◌∷◌, map, ℕ, zero, suc, ◌+◌, ◌-◌, ◌*◌, ◌/◌, ◌%◌, ◌≤◌, ltb, ℤ, length}
+use Rattle.std.specs.Prelude.{◌≡◌, Bool, false, ◌&&◌, List, [], ◌∷◌, map, ℕ, zero, suc, ◌+◌, ◌-◌, ◌*◌, ◌/◌, ◌%◌, ◌≤◌, ltb, ℤ, length, Option, Some, None}
 use Rattle.paper.specs.Sizes.{wish_room, first_wish, wish_variable, first_counter, counter_start}
 use Rattle.paper.specs.declared.Width.{Width}
-use Rattle.paper.specs.Clauses.{Clause, variable, positive, every, only, pick}
+use Rattle.paper.specs.Clauses.{Clause, variable, positive, every, pick}
 use Rattle.paper.specs.Session.{spread}
 use Rattle.paper.specs.Steps.{least}
 use Rattle.weights.specs.declared.Place.{Place}
-use Rattle.weights.specs.declared.Place.TheVariants.{InWishes, InOutputs, Nowhere}
+use Rattle.weights.specs.declared.Place.TheVariants.{InWishes, InOutputs}
 
 -- f at 0, 1 and so on, n of them.
 unfoldable pub table : ℕ → (ℕ → ℕ) → List ℕ
@@ -42,17 +42,17 @@ pub record Weighs (u : Width) (wishes outputs : List ℕ) (f : ℕ → ℕ) : Ty
 -- ── Where a variable's weight stands ──
 
 -- The place may lie past the end of its room.
-abbrev pub place_of : Width → ℕ → Place
+abbrev pub place_of : Width → ℕ → Option Place
 place_of u v =
-    pick (ltb v first_counter) (pick (ltb v first_wish) Nowhere (InWishes (v - first_wish)))
+    pick (ltb v first_counter) (pick (ltb v first_wish) None (Some (InWishes (v - first_wish))))
     (pick (ltb ((v - first_counter) % u.stride) u.literals)
-    (InOutputs (u.literals * ((v - first_counter) / u.stride) + (v - first_counter) % u.stride))
-    Nowhere)
+    (Some (InOutputs (u.literals * ((v - first_counter) / u.stride) + (v - first_counter) % u.stride)))
+    None)
 
-abbrev pub in_room : Width → Place → Bool
-in_room u (InWishes at) = ltb at wish_room.clauses
-in_room u (InOutputs at) = ltb at (output_places u)
-in_room u Nowhere = false
+abbrev pub in_room : Width → Option Place → Bool
+in_room u (Some (InWishes at)) = ltb at wish_room.clauses
+in_room u (Some (InOutputs at)) = ltb at (output_places u)
+in_room u None = false
 
 abbrev pub placed : Width → ℕ → Bool
 placed u v = in_room u (place_of u v)
@@ -77,10 +77,10 @@ lost f w xs v = f v - spread w xs v
 abbrev pub is_member : (ℕ → ℕ) → ℤ → Bool
 is_member f l = positive l && ltb 0 (f (variable l))
 
--- The weight that a literal has as a member, 0 where it is none.
-abbrev pub member_weight : (ℕ → ℕ) → ℤ → ℕ
-member_weight f l = only (positive l) (f (variable l))
+-- The weight that a literal has as a member, none where it is no member.
+abbrev pub member_weight : (ℕ → ℕ) → ℤ → Option ℕ
+member_weight f l = pick (is_member f l) (Some (f (variable l))) None
 
--- The least weight of a member; 0 where the clause is empty or has a literal that is no member.
-abbrev pub least_member : (ℕ → ℕ) → Clause → ℕ
-least_member f c = only (ltb 0 (length c) && every (is_member f) c) (least f (map variable c))
+-- The least weight of a member; none where the clause is empty or has a literal that is no member.
+abbrev pub least_member : (ℕ → ℕ) → Clause → Option ℕ
+least_member f c = pick (ltb 0 (length c) && every (is_member f) c) (Some (least f (map variable c))) None

@@ -3,92 +3,65 @@
 // leaves everything as it was.
 #![tactic(auto)]
 
-ghost use Rattle.std.specs.Prelude.{◌≡◌, List, ◌++◌, ℕ, set};
+ghost use Rattle.std.specs.Prelude.{◌≡◌, List, ℕ};
 ghost use Rattle.paper.specs.Sizes.{narrow};
 ghost use Rattle.paper.specs.Session.{Session, tally_of};
 ghost use Rattle.paper.specs.Steps.{wish as wishStep, next, outcome};
 ghost use Rattle.paper.specs.Runs.{Reached};
+ghost use Rattle.clauses.specs.Lent.{SameFamily};
+ghost use Rattle.values.specs.Lent.{bytes, KeptValues};
 ghost use Rattle.rooms.specs.Held.{HeldWishes, HeldWeights, Zeros};
 
-use paper::{Answer, Outcome, Tally};
-
-// The tally with so many wishes; whatever the work counts stays where it is.
-fn counted(tally: Tally, wishes: u32) -> Tally
-    ensures { result ≡ record {
-      variables = tally.variables;
-      rules = tally.rules;
-      wishes = wishes;
-      derived = tally.derived;
-      counters = tally.counters;
-      bound = tally.bound;
-    } }
-{
-    Tally {
-        variables: tally.variables,
-        rules: tally.rules,
-        wishes: wishes,
-        derived: tally.derived,
-        counters: tally.counters,
-        bound: tally.bound,
-    }
-}
-
-// Puts a number into a room at a place that the room has.
-fn store(room: &mut [u32], place: u32, number: u32)
-    ensures { room.new ≡ set room.old place number }
-{
-    let at = place as usize;
-    if at < room.len() {
-        room[at] = number;
-    }
-}
+use clauses::FamilyRoomsMut;
+use paper::{Answer, FIRST_WISH, Outcome, Reason, Tally};
+use values::ValueRooms;
 
 // `left` is the room of the remaining weights of wish variables.
 pub fn wish(
     tally: Tally,
-    literals: &mut [i32],
-    ends: &mut [u32],
+    wishes: &mut FamilyRoomsMut,
     weights: &mut [u32],
     left: &mut [u32],
-    low: &mut [u8],
-    high: &mut [u8],
+    values: &mut ValueRooms,
     weight: u32,
     clause: &[i32],
 ) -> Outcome
-    ensures kept { (low.new ≡ low.old) × (high.new ≡ high.old) }
+    ensures same { SameFamily wishes.old wishes.new }
+    ensures kept { KeptValues values.old values.new }
     ensures stepped { (s : Session) (outputs : List ℕ) → Reached s → tally ≡ tally_of s
-        → HeldWishes literals.old ends.old weights.old s → HeldWeights left.old outputs s
-        → Zeros narrow (low.old ++ high.old)
+        → HeldWishes wishes.old.literals.now wishes.old.ends.now weights.old s
+        → HeldWeights left.old outputs s
+        → Zeros narrow (bytes values.old)
         → (result ≡ outcome s (wishStep weight clause.now))
-        × HeldWishes literals.new ends.new weights.new (next s (wishStep weight clause.now))
+        × HeldWishes wishes.new.literals.now wishes.new.ends.now weights.new (next s (wishStep weight clause.now))
         × HeldWeights left.new outputs (next s (wishStep weight clause.now)) }
 {
     let variables = tally.variables;
     if variables == 0 {
-        return openings::refused(tally, 12);
+        return openings::refuse(tally, Reason::OutOfTurn);
     }
-    if weight < 1 {
-        return openings::refused(tally, 15);
+    if weight < 1 || 1000000 < weight {
+        return openings::refuse(tally, Reason::WrongWeight);
     }
-    if 1000000 < weight {
-        return openings::refused(tally, 15);
-    }
-    let width = openings::width_of(tally);
-    let number = marks::problem_refusal(width.literals as usize, variables, clause, low, high);
-    if number != 0 {
-        return openings::refused(tally, number);
+    let most = openings::width_of(tally).literals as usize;
+    if let Err(reason) = marks::problem_refusal(most, variables, clause, values) {
+        return openings::refuse(tally, reason);
     }
     let count = tally.wishes;
-    if 511 < count {
-        return openings::refused(tally, 23);
+    if 511 < count || !wishes.append(count, clause) {
+        return openings::refuse(tally, Reason::NoRoom);
     }
-    if !clauses::append(literals, ends, count, clause) {
-        return openings::refused(tally, 23);
+    // An index test, since after a slice's `get_mut` a proof knows only the length.
+    let place = count as usize;
+    if place < weights.len() {
+        weights[place] = weight;
     }
-    store(weights, count, weight);
     weights::start(left, count, weight);
     Outcome {
-        tally: counted(tally, count + 1),
-        answer: Answer::Wish(count, 2001 + count),
+        tally: Tally {
+            wishes: count + 1,
+            ..tally
+        },
+        answer: Answer::Wish(count, FIRST_WISH + count),
     }
 }

@@ -1,14 +1,17 @@
 -- The front of some bytes up to the first that stops it: a word stops at a blank, and a line at an LF.
-use mathlib.Core.Path.{◌≡◌, refl, ap}
-use mathlib.Core.Bool.{Bool, true, false}
+use mathlib.Core.Path.{◌≡◌, refl, sym, ap, ◌∙◌}
+use mathlib.Core.Bool.{Bool, true, false, not}
 use mathlib.Core.List.{List, [], ◌∷◌}
-use Prim.Native.Nat.{ℕ, ◌+◌, ◌<◌, ◌≤◌}
-use native.Mathlib.Nat.{add-zero, add-suc, suc-add}
-use native.Mathlib.Numerals.{add-one}
+use Prim.Native.Nat.{ℕ, ◌+◌, ◌≤◌}
 use native.Mathlib.Omega.{arith}
-use lib.Dec.{eqb}
-use lib.ListN.{length, get_or, take, drop, length-take, drop_of_length-le}
-use lib.Seq.{drop-cons}
+use lib.Dec.{eqb, ltb}
+use lib.ListN.{length, take, length-take}
+use borrow.Author.Tests.{ltb-false}
+use Rattle.std.specs.Prelude.{None, Some, unwrap_or}
+use Rattle.std.specs.List.{position, position_or_len}
+use Rattle.std.proofs.Math.Bool.{cond}
+use Rattle.std.proofs.lemmas.List.Recursion.{is_position_or_len}
+use Rattle.std.proofs.lemmas.List.Sums.{prefix_len-le-length}
 use Rattle.paper.specs.Clauses.{pick}
 use Rattle.paper.specs.Texts.{blank, word, line}
 
@@ -35,13 +38,25 @@ module _ {stop : ℕ → Bool} {front : List ℕ → List ℕ} (is : Front stop 
   pub front_short : (bytes : List ℕ) → length (front bytes) ≤ length bytes
   front_short bytes = let taken = ap length (front_taken bytes) in omega (arith, simp length-take at taken)
 
-  module _ (text : List ℕ) (place : ℕ) where
-    pub front_over : length text ≤ place → place + length (front (drop place text)) ≡ place
-    front_over h = rw (drop_of_length-le text h, is.nil, add-zero)
+-- ── The first place whose byte passes a test ──
 
-    pub front_stops : place < length text → stop (get_or text place 0) ≡ true → place + length (front (drop place text)) ≡ place
-    front_stops h e = rw (drop-cons text place 0 h, is.cons, e, add-zero)
+-- Where a search answers it, or the length where there is none.
+pub or_length : (p : ℕ → Bool) (bytes : List ℕ) → unwrap_or (position p bytes) (length bytes) ≡ position_or_len p bytes
+or_length p bytes = go (ltb (position_or_len p bytes) (length bytes)) refl
+  where
+    go : (b : Bool) → ltb (position_or_len p bytes) (length bytes) ≡ b
+        → unwrap_or (cond b (Some (position_or_len p bytes)) None) (length bytes) ≡ position_or_len p bytes
+    go true e = refl
+    go false e = omega (arith, ltb-false _ _ e, prefix_len-le-length (λ b. not (p b)) bytes)
 
-    pub front_goes_on : place < length text → stop (get_or text place 0) ≡ false
-        → place + length (front (drop place text)) ≡ place + 1 + length (front (drop (place + 1) text))
-    front_goes_on h e = rw (drop-cons text place 0 h, is.cons, e, add-one, add-suc, suc-add)
+pub front_ends : {stop : ℕ → Bool} {front : List ℕ → List ℕ} → Front stop front → (bytes : List ℕ)
+    → position_or_len stop bytes ≡ length (front bytes)
+front_ends {stop} {front} is bytes =
+    sym (is_position_or_len (λ bytes. length (front bytes)) stop (ap length is.nil) step bytes)
+  where
+    picked : (stops : Bool) (b : ℕ) (bytes : List ℕ) → length (pick stops [] (b ∷ bytes)) ≡ cond stops 0 (1 + length bytes)
+    picked true b bytes = refl
+    picked false b bytes = omega arith
+
+    step : (b : ℕ) (bytes : List ℕ) → length (front (b ∷ bytes)) ≡ cond (stop b) 0 (1 + length (front bytes))
+    step b bytes = ap length (is.cons b bytes) ∙ picked (stop b) b (front bytes)

@@ -25,7 +25,7 @@ use Rattle.paper.specs.Texts.{
   word_at,
   words,
 }
-use Rattle.words.specs.Words.{starts_line, stand_at, words_at, Stands, Next}
+use Rattle.words.specs.Words.{starts_line, stand_at, words_at, gap_end, Stands, NoWord, NextWord}
 use Rattle.words.proofs.Fronts.{word_front, front_taken, front_short}
 
 -- ── Behind the blanks and comments ──
@@ -157,11 +157,9 @@ module _ (text : List ℕ) (at start : ℕ) (starts : start ≡ at + gap (stand_
         words = words_start ∙ rw (size, front_taken word_front) (one_more end (omega arith) h);
       }
 
-pub next : (text : List ℕ) (at start end : ℕ) → start ≡ at + gap (stand_at text at) (drop at text)
-    → end ≡ start + length (word (drop start text)) → Next text at start end
-next text at start end starts ends = record {
-  starts = starts;
-  ends = ends;
-  none = none text at start starts;
-  some = some text at start starts end ends;
-}
+module _ (text : List ℕ) (at start : ℕ) (starts : start ≡ gap_end text at) where
+  pub no_word : length text ≤ start → NoWord text at
+  no_word h = record { over = omega (arith, h, starts); none = none text at start starts h }
+
+  pub next_word : (end : ℕ) → end ≡ start + length (word (drop start text)) → start < length text → NextWord text at start end
+  next_word end ends h = record { starts = starts; ends = ends; some = some text at start starts end ends h }

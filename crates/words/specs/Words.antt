@@ -1,5 +1,6 @@
 -- The words of a text from a place on, and what the search for the next of them finds.
-use Rattle.std.specs.Prelude.{◌≡◌, Bool, true, List, [], ◌∷◌, ℕ, zero, suc, ◌+◌, ◌-◌, ◌≤◌, ◌<◌, eqb, length, take, drop, get_or}
+use Rattle.std.specs.Prelude.{◌≡◌, Bool, true, List, [], ◌∷◌, ℕ, zero, suc, ◌+◌, ◌-◌, ◌≤◌, ◌<◌, eqb, length, take, drop, get_or, Option, None, Some}
+use Rattle.std.specs.declared.ops.Range.{Range}
 use Rattle.paper.specs.Clauses.{pick}
 use Rattle.paper.specs.Texts.{Stand, first, behind, gap, word, Word, words}
 
@@ -24,9 +25,20 @@ pub record Stands (text : List ℕ) (at start end : ℕ) : Type 0 where
   pub fits : end ≤ length text
   pub words : words_at text at ≡ record { at = start; bytes = take (end - start) (drop start text) } ∷ words_at text end
 
--- A word starts where the blanks and comments end, and if that is at the text's end, there is none.
-pub record Next (text : List ℕ) (at start end : ℕ) : Type 0 where
-  pub starts : start ≡ at + gap (stand_at text at) (drop at text)
+-- Where the blanks and comments from a place on end.
+abbrev pub gap_end : List ℕ → ℕ → ℕ
+gap_end text at = at + gap (stand_at text at) (drop at text)
+
+-- A word starts where they end, and if that is at the text's end, there is none.
+pub record NoWord (text : List ℕ) (at : ℕ) : Type 0 where
+  pub over : length text ≤ gap_end text at
+  pub none : words_at text at ≡ []
+
+pub record NextWord (text : List ℕ) (at start end : ℕ) : Type 0 where
+  pub starts : start ≡ gap_end text at
   pub ends : end ≡ start + length (word (drop start text))
-  pub none : length text ≤ start → words_at text at ≡ []
-  pub some : start < length text → Stands text at start end
+  pub some : Stands text at start end
+
+abbrev pub Next : List ℕ → ℕ → Option (Range ℕ) → Type 0
+Next text at None = NoWord text at
+Next text at (Some found) = NextWord text at found.start found.end

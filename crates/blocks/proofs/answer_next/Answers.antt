@@ -8,9 +8,9 @@ use Rattle.blocks.proofs.answer_next.Goals as goal
 pub returns-clause-ran : goal.returns-clause-ran
 returns-clause-ran c =
     let p = c.args.progress in
-    let one : Record = record { kind = c.kind_at-kind.result; payload = c.payload_at.result.now } in
+    let one : Record = record { kind = c.kind_at-kind.result; payload = c.payload_at-payload.result.now } in
     let read : one ≡ record_in c.args.size (drop p.consumed c.args.block.now) =
-    λ i. record { kind = c.kind_at-kind.ensures i; payload = c.payload_at.ensures i } in
+    λ i. record { kind = c.kind_at-kind.ensures i; payload = c.payload_at-payload.ensures i } in
     let line = c.put_line-written.ensures.fits c.requires.written_in_bounds in
     carried_one c.args.block.now p.consumed c.args.size c.requires.block_value one read p.place p.written c.args.out.now
-    _ _ _ _ c.answer_record-done.ensures.answered c.numbers_of.ensures line
+    _ _ _ _ c.answer-answer.ensures.answered c.from-numbers.ensures line

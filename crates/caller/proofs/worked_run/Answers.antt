@@ -6,7 +6,7 @@ use Rattle.paper.specs.Runs.{Line}
 use Rattle.paper.specs.Inputs.{text}
 use Rattle.paper.specs.Worked.{input_bytes}
 use Rattle.paper.proofs.Promised.{worked_lines_lem, by_steps}
-use Rattle.rooms.proofs.Kept.{nothing_kept}
+use Rattle.rooms.proofs.Kept.{fresh_counts, fresh_kept}
 use Rattle.blocks.specs.declared.Progress.{Progress}
 use Rattle.blocks.specs.Blocks.{taken_from, lines_in}
 use Rattle.caller.specs.Worked.{worked_lines}
@@ -21,10 +21,10 @@ lines = in_one_block ∙ sym by_steps
 
 pub returns : goal.returns
 returns c =
-    let ran = c.run_block-done.ensures.ran fresh nothing_kept in
+    let ran = c.run_block-done.ensures.ran fresh (fresh_kept _ _ (fresh_counts c.default.result c.default.ensures) c.fresh-rooms.ensures) in
     let kept = ran.2 in
     let held = kept.held in (
       ran.1 ∙ ap (λ (ls : List Line). sets c.args.out.now 0 (text ls)) lines,
       ap (λ (p : Progress). p.written) ran.0 ∙ ap (λ (ls : List Line). length (text ls)) lines,
-      c.weighed-weight.ensures _ kept.reached kept.counts held.wishes.clauses held.counters held.weights refl,
+      c.weighed.ensures _ kept.reached kept.counts held.wishes.clauses held.counters held.weights refl,
     )

@@ -3,10 +3,6 @@ use Rattle.std.proofs.Common.{arith}
 use Rattle.clauses.proofs.Family.{size_is}
 use Rattle.clauses.proofs.size_of.Goals as goal
 
-pub returns-then-start-end : goal.returns-then-start-end
-returns-then-start-end c = λ size most count literals family H.
-    size_is H c.args.number _ _ c.start_of-start.ensures.0 c.start_of-end.ensures.0
-
 pub returns : goal.returns
 returns c = λ size most count literals family H.
     omega (arith, size_is H c.args.number _ _ c.start_of-start.ensures.0 c.start_of-end.ensures.0)

@@ -2,4 +2,4 @@
 use Rattle.counters.proofs.+node_by_halves.Given as goal
 
 abbrev pub decreases-node_by_halves : goal.decreases-node_by_halves
-decreases-node_by_halves l = l.size
+decreases-node_by_halves l = l.node.now.size

@@ -1,25 +1,29 @@
 -- Over rooms of zeros a derivation is the paper's, and the rooms are given back.
-use Rattle.std.proofs.Common.{◌≡◌, ◌∙◌, ◌++◌, ℕ, List, ap, arith}
+use Rattle.std.proofs.Common.{◌≡◌, ◌∙◌, ℕ, List, ap, arith, rules}
 use Rattle.paper.specs.declared.Width.{Width}
 use Rattle.paper.proofs.Reach.{reached_narrow}
 use Rattle.clauses.proofs.Lists.{append_parts}
+use Rattle.values.specs.Lent.{bytes}
 use Rattle.derive.specs.Derivations.{hinted, misfit_in}
 use Rattle.derive.proofs.Represented.{misfit_is}
 use Rattle.derive.proofs.misfit_of.Goals as goal
 
 -- No session's width allows so many literals.
-pub returns-then-clause-gt-MOST_LITERALS-clause-answer : goal.returns-then-clause-gt-MOST_LITERALS-clause-answer
-returns-then-clause-gt-MOST_LITERALS-clause-answer c s r H width tally hints literals zeros few short =
-    let allowed : c.args.width.literals ≡ 64 = ap (λ (u : Width). u.literals) (width ∙ reached_narrow s r) in
+pub returns-then-hints-gt-MOST_HINTS-clause-answer : goal.returns-then-hints-gt-MOST_HINTS-clause-answer
+returns-then-hints-gt-MOST_HINTS-clause-answer c s r H width tally hints literals zeros few short =
+    let allowed : c.args.clauses.now.width.literals ≡ 64 = ap (λ (u : Width). u.literals) (width ∙ reached_narrow s r) in
     absurd (omega arith)
 
 pub returns-clause-kept : goal.returns-clause-kept
 returns-clause-kept c =
-    append_parts c.take_back.new.low c.take_back.new.high c.args.low.now c.args.high.now (omega arith)
-    (c.take_back.ensures.within (omega arith) ∙ c.follow_hints-followed.ensures.undone ∙ c.assume-assumed.ensures.undone)
+    let values = c.args.values.now in
+    let after = c.take_back.new.values in
+    let same = c.take_back.ensures.within (omega arith) ∙ c.follow_hints-followed.ensures.undone ∙ c.assume-assumed.ensures.undone in
+    let parts = append_parts after.low.now after.high.now values.low.now values.high.now (omega arith) same in
+    (search rules, parts.0, parts.1)
 
 pub returns-clause-answer : goal.returns-clause-answer
 returns-clause-answer c s r H width tally hints literals zeros few short =
     c.follow_hints-followed.ensures.answer s r H width tally hints
     ∙ ap (λ (w : List ℕ). misfit_in w 1 (hinted s c.args.hints.now)) c.assume-assumed.ensures.assumed
-    ∙ misfit_is s r (c.args.low.now ++ c.args.high.now) zeros c.args.clause.now literals c.args.hints.now hints
+    ∙ misfit_is s r (bytes c.args.values.now) zeros c.args.clause.now literals c.args.hints.now hints

@@ -1,103 +1,98 @@
 -- Each way out is one law of Derives.
-use Rattle.std.proofs.Common.{◌∙◌, arith, sym}
+use Rattle.std.proofs.Common.{◌∙◌, ap, refl, sym}
+use Rattle.paper.specs.Reasons.{reason_number, refusal_number}
 use Rattle.paper.proofs.Reach.{reached_narrow}
-use Rattle.derived.proofs.Derives.{zeros_wide, zeros_kept, short_enough, clause_passed, derive_refused, derive_many, derive_unnamed, derive_unshown, derive_crowded, derive_full, derive_stored}
+use Rattle.derive.specs.Derivations.{place_of}
+use Rattle.derived.proofs.Derives.{zeros_wide, zeros_kept, short_enough, held_seen, some_number, some_place, no_place, clause_passed, derive_refused, derive_many, derive_unnamed, derive_unshown, derive_crowded, derive_full, derive_stored}
+use Rattle.derived.proofs.derive.Goals.{then-hints-gt-MOST_HINTS-via-then-hints-gt-MOST_HINTS, then-hints-gt-MOST_HINTS-via-else-hints-gt-MOST_HINTS+then-not-all_hints_named}
+use Rattle.derived.proofs.derive.Goals.{then-tally-ge-MOST_DERIVED-via-then-tally-ge-MOST_DERIVED, then-tally-ge-MOST_DERIVED-via-else-tally-ge-MOST_DERIVED+then-not-append}
 use Rattle.derived.proofs.derive.Goals as goal
 
-pub returns-then-number-ne0-clause-stepped : goal.returns-then-number-ne0-clause-stepped
-returns-then-number-ne0-clause-stepped c =
+pub returns-in-Err-clause-stepped : goal.returns-in-Err-clause-stepped
+returns-in-Err-clause-stepped c =
     let a = c.args in
     λ s r eq H z.
     let wide = c.width_of-width.ensures ∙ sym (reached_narrow s r) in
-    let found = c.named_refusal-number.ensures.answer s a.inputs.now r wide eq H.counters (zeros_wide s r _ z) in
-    let l = derive_refused s a.tally eq a.clause.now a.hints.now a.derived.now a.derived_ends.now H.derived c.if-tally-eq0.false
-    c.named_refusal-number.result found c.if-number-ne0.true in
-    (c.refused-then-number-ne0.ensures ∙ l.0, l.1)
+    let found = c.named_refusal.ensures.answer s a.counters.literals.now r wide eq H.counters (zeros_wide s r _ z) in
+    let l = derive_refused s a.tally eq a.clause.now a.hints.now a.derived.now.literals.now a.derived.now.ends.now H.derived c.if-tally-eq0.false
+    (reason_number c.in-Err.reason) (sym (ap refusal_number c.in-Err.is) ∙ found) (some_number c.in-Err.reason) in
+    (c.refuse-in-Err.ensures ∙ l.0, l.1)
 
-pub returns-then-hints-gt256-clause-stepped : goal.returns-then-hints-gt256-clause-stepped
-returns-then-hints-gt256-clause-stepped c =
+pub returns-then-hints-gt-MOST_HINTS-clause-stepped : goal.returns-then-hints-gt-MOST_HINTS-clause-stepped
+returns-then-hints-gt-MOST_HINTS-clause-stepped c =
     let a = c.args in
     λ s r eq H z.
     let wide = c.width_of-width.ensures ∙ sym (reached_narrow s r) in
-    let found = c.named_refusal-number.ensures.answer s a.inputs.now r wide eq H.counters (zeros_wide s r _ z) in
-    let l = derive_many s a.tally eq a.clause.now a.hints.now a.derived.now a.derived_ends.now H.derived c.if-tally-eq0.false
-    c.named_refusal-number.result found c.if-number-ne0.false c.if-hints-gt256.true in
-    (c.refused-then-hints-gt256.ensures ∙ l.0, l.1)
+    let found = c.named_refusal.ensures.answer s a.counters.literals.now r wide eq H.counters (zeros_wide s r _ z) in
+    let none = sym (ap refusal_number c.in_default.is) in
+    elim c.then-hints-gt-MOST_HINTS.branch [
+      | then-hints-gt-MOST_HINTS-via-then-hints-gt-MOST_HINTS w ↦
+          let l = derive_many s a.tally eq a.clause.now a.hints.now a.derived.now.literals.now a.derived.now.ends.now H.derived
+          c.if-tally-eq0.false 0 (none ∙ found) refl w.if-hints-gt-MOST_HINTS.true in
+          (c.refuse-then-hints-gt-MOST_HINTS.ensures ∙ l.0, l.1)
+      | then-hints-gt-MOST_HINTS-via-else-hints-gt-MOST_HINTS+then-not-all_hints_named w ↦
+          let all = sym (w.all_hints_named.ensures s a.counters.literals.now r eq H.counters) ∙ w.if-not-all_hints_named.true in
+          let l = derive_unnamed s a.tally eq a.clause.now a.hints.now a.derived.now.literals.now a.derived.now.ends.now H.derived
+          c.if-tally-eq0.false 0 (none ∙ found) refl w.if-hints-gt-MOST_HINTS.false all in
+          (c.refuse-then-hints-gt-MOST_HINTS.ensures ∙ l.0, l.1)
+    ]
 
-pub returns-then-not-all_hints_named-clause-stepped : goal.returns-then-not-all_hints_named-clause-stepped
-returns-then-not-all_hints_named-clause-stepped c =
+pub returns-then-is_some-clause-stepped : goal.returns-then-is_some-clause-stepped
+returns-then-is_some-clause-stepped c =
     let a = c.args in
     λ s r eq H z.
     let wide = c.width_of-width.ensures ∙ sym (reached_narrow s r) in
-    let found = c.named_refusal-number.ensures.answer s a.inputs.now r wide eq H.counters (zeros_wide s r _ z) in
-    let all = sym (c.all_hints_named.ensures s a.inputs.now r eq H.counters) ∙ c.if-not-all_hints_named.true in
-    let l = derive_unnamed s a.tally eq a.clause.now a.hints.now a.derived.now a.derived_ends.now H.derived c.if-tally-eq0.false
-    c.named_refusal-number.result found c.if-number-ne0.false c.if-hints-gt256.false all in
-    (c.refused-then-not-all_hints_named.ensures ∙ l.0, l.1)
+    let found = sym (ap refusal_number c.in_default.is)
+    ∙ c.named_refusal.ensures.answer s a.counters.literals.now r wide eq H.counters (zeros_wide s r _ z) in
+    let all = sym (c.all_hints_named.ensures s a.counters.literals.now r eq H.counters) ∙ c.if-not-all_hints_named.false in
+    let kept = c.named_refusal.ensures.kept in
+    let ok = clause_passed s a.tally eq a.clause.now a.hints.now 0 found refl in
+    let fits = c.misfit_of.ensures.answer s r (held_seen s _ _ c.view.ensures.0 c.view.ensures.1 H) wide eq all ok.0 (zeros_kept kept.1 kept.2 (zeros_wide s r _ z))
+    c.if-hints-gt-MOST_HINTS.false (short_enough wide ok.1) in
+    let some = some_place c.misfit_of.result c.misfit_of.ensures.counted c.if-is_some.ensures in
+    let l = derive_unshown s a.tally eq a.clause.now a.hints.now a.derived.now.literals.now a.derived.now.ends.now H.derived c.if-tally-eq0.false
+    0 found refl c.if-hints-gt-MOST_HINTS.false all (place_of c.misfit_of.result) fits some in
+    (c.refuse-then-is_some.ensures ∙ l.0, l.1)
 
-pub returns-then-place-ne0-clause-stepped : goal.returns-then-place-ne0-clause-stepped
-returns-then-place-ne0-clause-stepped c =
+pub returns-then-tally-ge-MOST_DERIVED-clause-stepped : goal.returns-then-tally-ge-MOST_DERIVED-clause-stepped
+returns-then-tally-ge-MOST_DERIVED-clause-stepped c =
     let a = c.args in
     λ s r eq H z.
     let wide = c.width_of-width.ensures ∙ sym (reached_narrow s r) in
-    let found = c.named_refusal-number.ensures.answer s a.inputs.now r wide eq H.counters (zeros_wide s r _ z) in
-    let all = sym (c.all_hints_named.ensures s a.inputs.now r eq H.counters) ∙ c.if-not-all_hints_named.false in
-    let kept = c.named_refusal-number.ensures.kept in
-    let ok = clause_passed s a.tally eq a.clause.now a.hints.now c.named_refusal-number.result found c.if-number-ne0.false in
-    let fits = c.misfit_of-place.ensures.answer s r
-    (record { rules = H.rules; wishes = H.wishes; counters = H.counters; derived = H.derived }) wide eq all ok.0
-    (zeros_kept kept.0 kept.1 (zeros_wide s r _ z)) c.if-hints-gt256.false (short_enough wide ok.1) in
-    let l = derive_unshown s a.tally eq a.clause.now a.hints.now a.derived.now a.derived_ends.now H.derived c.if-tally-eq0.false
-    c.named_refusal-number.result found c.if-number-ne0.false c.if-hints-gt256.false all c.misfit_of-place.result fits (λ e. omega arith) in
-    (c.refused-then-place-ne0.ensures ∙ l.0, l.1)
-
-pub returns-then-count-gt4095-clause-stepped : goal.returns-then-count-gt4095-clause-stepped
-returns-then-count-gt4095-clause-stepped c =
-    let a = c.args in
-    λ s r eq H z.
-    let wide = c.width_of-width.ensures ∙ sym (reached_narrow s r) in
-    let found = c.named_refusal-number.ensures.answer s a.inputs.now r wide eq H.counters (zeros_wide s r _ z) in
-    let all = sym (c.all_hints_named.ensures s a.inputs.now r eq H.counters) ∙ c.if-not-all_hints_named.false in
-    let kept = c.named_refusal-number.ensures.kept in
-    let ok = clause_passed s a.tally eq a.clause.now a.hints.now c.named_refusal-number.result found c.if-number-ne0.false in
-    let fits = c.misfit_of-place.ensures.answer s r
-    (record { rules = H.rules; wishes = H.wishes; counters = H.counters; derived = H.derived }) wide eq all ok.0
-    (zeros_kept kept.0 kept.1 (zeros_wide s r _ z)) c.if-hints-gt256.false (short_enough wide ok.1) in
-    let l = derive_crowded s a.tally eq a.clause.now a.hints.now a.derived.now a.derived_ends.now H.derived c.if-tally-eq0.false
-    c.named_refusal-number.result found c.if-number-ne0.false c.if-hints-gt256.false all c.misfit_of-place.result fits (omega arith)
-    c.if-count-gt4095.true in
-    (c.refused-then-count-gt4095.ensures ∙ l.0, l.1)
-
-pub returns-then-not-append-clause-stepped : goal.returns-then-not-append-clause-stepped
-returns-then-not-append-clause-stepped c =
-    let a = c.args in
-    λ s r eq H z.
-    let wide = c.width_of-width.ensures ∙ sym (reached_narrow s r) in
-    let found = c.named_refusal-number.ensures.answer s a.inputs.now r wide eq H.counters (zeros_wide s r _ z) in
-    let all = sym (c.all_hints_named.ensures s a.inputs.now r eq H.counters) ∙ c.if-not-all_hints_named.false in
-    let kept = c.named_refusal-number.ensures.kept in
-    let ok = clause_passed s a.tally eq a.clause.now a.hints.now c.named_refusal-number.result found c.if-number-ne0.false in
-    let fits = c.misfit_of-place.ensures.answer s r
-    (record { rules = H.rules; wishes = H.wishes; counters = H.counters; derived = H.derived }) wide eq all ok.0
-    (zeros_kept kept.0 kept.1 (zeros_wide s r _ z)) c.if-hints-gt256.false (short_enough wide ok.1) in
-    let l = derive_full s a.tally eq a.clause.now a.hints.now a.derived.now a.derived_ends.now H.derived c.if-tally-eq0.false
-    c.named_refusal-number.result found c.if-number-ne0.false c.if-hints-gt256.false all c.misfit_of-place.result fits (omega arith)
-    c.append.result _ _ c.append.ensures c.if-not-append.true in
-    (c.refused-then-not-append.ensures ∙ l.0, l.1)
+    let found = sym (ap refusal_number c.in_default.is)
+    ∙ c.named_refusal.ensures.answer s a.counters.literals.now r wide eq H.counters (zeros_wide s r _ z) in
+    let all = sym (c.all_hints_named.ensures s a.counters.literals.now r eq H.counters) ∙ c.if-not-all_hints_named.false in
+    let kept = c.named_refusal.ensures.kept in
+    let ok = clause_passed s a.tally eq a.clause.now a.hints.now 0 found refl in
+    let fits = c.misfit_of.ensures.answer s r (held_seen s _ _ c.view.ensures.0 c.view.ensures.1 H) wide eq all ok.0 (zeros_kept kept.1 kept.2 (zeros_wide s r _ z))
+    c.if-hints-gt-MOST_HINTS.false (short_enough wide ok.1) in
+    let none = no_place c.misfit_of.result c.if-is_some.ensures in
+    elim c.then-tally-ge-MOST_DERIVED.branch [
+      | then-tally-ge-MOST_DERIVED-via-then-tally-ge-MOST_DERIVED w ↦
+          let l = derive_crowded s a.tally eq a.clause.now a.hints.now a.derived.now.literals.now a.derived.now.ends.now H.derived
+          c.if-tally-eq0.false 0 found refl c.if-hints-gt-MOST_HINTS.false all (place_of c.misfit_of.result) fits none
+          w.if-tally-ge-MOST_DERIVED.true in
+          rw w.derived-is (c.refuse-then-tally-ge-MOST_DERIVED.ensures ∙ l.0, l.1)
+      | then-tally-ge-MOST_DERIVED-via-else-tally-ge-MOST_DERIVED+then-not-append w ↦
+          let l = derive_full s a.tally eq a.clause.now a.hints.now a.derived.now.literals.now a.derived.now.ends.now H.derived
+          c.if-tally-eq0.false 0 found refl c.if-hints-gt-MOST_HINTS.false all (place_of c.misfit_of.result) fits none
+          w.append.result _ _ w.append.ensures.appended w.if-not-append.true in
+          rw w.derived-is (c.refuse-then-tally-ge-MOST_DERIVED.ensures ∙ l.0, l.1)
+    ]
 
 pub returns-clause-stepped : goal.returns-clause-stepped
 returns-clause-stepped c =
     let a = c.args in
     λ s r eq H z.
     let wide = c.width_of-width.ensures ∙ sym (reached_narrow s r) in
-    let found = c.named_refusal-number.ensures.answer s a.inputs.now r wide eq H.counters (zeros_wide s r _ z) in
-    let all = sym (c.all_hints_named.ensures s a.inputs.now r eq H.counters) ∙ c.if-not-all_hints_named.false in
-    let kept = c.named_refusal-number.ensures.kept in
-    let ok = clause_passed s a.tally eq a.clause.now a.hints.now c.named_refusal-number.result found c.if-number-ne0.false in
-    let fits = c.misfit_of-place.ensures.answer s r
-    (record { rules = H.rules; wishes = H.wishes; counters = H.counters; derived = H.derived }) wide eq all ok.0
-    (zeros_kept kept.0 kept.1 (zeros_wide s r _ z)) c.if-hints-gt256.false (short_enough wide ok.1) in
-    let l = derive_stored s a.tally eq a.clause.now a.hints.now a.derived.now a.derived_ends.now H.derived c.if-tally-eq0.false
-    c.named_refusal-number.result found c.if-number-ne0.false c.if-hints-gt256.false all c.misfit_of-place.result fits (omega arith)
-    c.append.result _ _ c.append.ensures c.if-not-append.false in
-    (c.derived_more.ensures ∙ l.0, l.1)
+    let found = sym (ap refusal_number c.in_default.is)
+    ∙ c.named_refusal.ensures.answer s a.counters.literals.now r wide eq H.counters (zeros_wide s r _ z) in
+    let all = sym (c.all_hints_named.ensures s a.counters.literals.now r eq H.counters) ∙ c.if-not-all_hints_named.false in
+    let kept = c.named_refusal.ensures.kept in
+    let ok = clause_passed s a.tally eq a.clause.now a.hints.now 0 found refl in
+    let fits = c.misfit_of.ensures.answer s r (held_seen s _ _ c.view.ensures.0 c.view.ensures.1 H) wide eq all ok.0 (zeros_kept kept.1 kept.2 (zeros_wide s r _ z))
+    c.if-hints-gt-MOST_HINTS.false (short_enough wide ok.1) in
+    let none = no_place c.misfit_of.result c.if-is_some.ensures in
+    derive_stored s a.tally eq a.clause.now a.hints.now a.derived.now.literals.now a.derived.now.ends.now H.derived c.if-tally-eq0.false
+    0 found refl c.if-hints-gt-MOST_HINTS.false all (place_of c.misfit_of.result) fits none c.append.result _ _
+    c.append.ensures.appended c.if-not-append.false

@@ -1,10 +1,11 @@
 -- `read_counter` meets its contract.
-use Rattle.std.proofs.Common.{◌≡◌, sym, ap, ◌∙◌, ◌++◌}
+use Rattle.std.proofs.Common.{◌≡◌, sym, ap, ◌∙◌}
 use mathlib.Core.List.{map}
 use lib.ListN.{length-map, get_or-map}
 use Rattle.paper.specs.Clauses.{Clause}
 use Rattle.paper.specs.Session.{of_counter, no_counter, hint_clause}
 use Rattle.counters.specs.Numbered.{numbered}
+use Rattle.values.specs.Lent.{bytes}
 use Rattle.readings.specs.Readings.{read_in}
 use Rattle.rooms.specs.Held.{inputs_of}
 use Rattle.hints.proofs.Hints.{forces_open, counted, numbered_is}
@@ -12,15 +13,15 @@ use Rattle.hints.proofs.read_counter.Goals as goal
 
 pub returns-clause-forces : goal.returns-clause-forces
 returns-clause-forces c =
-    let room = c.args.low.now ++ c.args.high.now in
-    forces_open room (numbered c.clause_of-members.result.now c.counter_start-start.result c.args.number) _
+    let room = bytes c.args.values.now in
+    forces_open room (numbered c.clause-members.result.now c.counter_start-start.result c.args.number) _
     (c.read_on.ensures ∙ ap (read_in room) c.counter_clause-clause.ensures.whole)
 
 pub returns-clause-reads : goal.returns-clause-reads
 returns-clause-reads c s r H count width named =
     let a = c.args in
-    let room = a.low.now ++ a.high.now in
-    let members = c.clause_of-members in
+    let room = bytes a.values.now in
+    let members = c.clause-members in
     let start = c.counter_start-start in
     let counters = s.work.counters in
     let clause : Clause = numbered members.result.now start.result a.number in

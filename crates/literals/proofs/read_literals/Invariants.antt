@@ -3,8 +3,8 @@ use Rattle.std.proofs.Common.{length, ◌-◌}
 use Rattle.literals.proofs.Reading.{Reading}
 use Rattle.literals.proofs.read_literals.Given as goal
 
-abbrev pub invariant-loop-at : goal.invariant-loop-at
-invariant-loop-at l = Reading l.text l.at l.initial.room l.room l.place l.count
+abbrev pub invariant-loop-found : goal.invariant-loop-found
+invariant-loop-found l = Reading l.text l.at l.initial.room l.room l.place l.count
 
-abbrev pub decreases-loop-at : goal.decreases-loop-at
-decreases-loop-at l = length l.text - l.place
+abbrev pub decreases-loop-found : goal.decreases-loop-found
+decreases-loop-found l = length l.text - l.place

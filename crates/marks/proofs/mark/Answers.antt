@@ -4,5 +4,5 @@ use Rattle.std.proofs.lemmas.Grind.{common_steps}
 use Rattle.marks.proofs.Marks.{unmarked_more, fresh_more}
 use Rattle.marks.proofs.mark.Goals as goal
 
-pub loop-i-preserved : goal.loop-i-preserved
-loop-i-preserved c = grind (arith, common_steps, unmarked_more, fresh_more)
+pub loop-count-preserved : goal.loop-count-preserved
+loop-count-preserved c = grind (arith, common_steps, unmarked_more, fresh_more)

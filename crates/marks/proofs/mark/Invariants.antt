@@ -1,17 +1,14 @@
 -- What is still to be read is fresh exactly where the clause is, and unmarking gives the room back.
-use Rattle.std.proofs.Common.{◌≡◌, ◌-◌, ◌≤◌, ◌++◌, length, drop}
+use Rattle.std.proofs.Common.{◌≡◌, ◌≤◌, length, drop}
+use Rattle.values.specs.Lent.{bytes, SameValues}
 use Rattle.marks.specs.Marks.{fresh, unmarked}
 use Rattle.marks.proofs.mark.Given as goal
 
-abbrev pub invariant-loop-i : goal.invariant-loop-i
-invariant-loop-i l =
+abbrev pub invariant-loop-count : goal.invariant-loop-count
+invariant-loop-count l =
     record {
-      within : l.i ≤ length l.clause;
-      low_kept : length l.low ≡ length l.fn.low;
-      high_kept : length l.high ≡ length l.fn.high;
-      undone : unmarked (l.low ++ l.high) l.clause l.i ≡ l.fn.low ++ l.fn.high;
-      same : fresh (l.low ++ l.high) (drop l.i l.clause) ≡ fresh (l.fn.low ++ l.fn.high) l.clause;
+      within : l.count ≤ length l.clause;
+      same : SameValues l.fn.values l.values;
+      undone : unmarked (bytes l.values) l.clause l.count ≡ bytes l.fn.values;
+      left : fresh (bytes l.values) (drop l.count l.clause) ≡ fresh (bytes l.fn.values) l.clause;
     }
-
-abbrev pub decreases-loop-i : goal.decreases-loop-i
-decreases-loop-i l = length l.clause - l.i

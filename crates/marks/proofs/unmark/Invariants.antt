@@ -1,16 +1,13 @@
 -- What is left to take away gives the same room.
-use Rattle.std.proofs.Common.{◌≡◌, ◌≤◌, ◌++◌, length}
+use Rattle.std.proofs.Common.{◌≡◌, length}
+use Rattle.values.specs.Lent.{bytes, SameValues}
 use Rattle.marks.specs.Marks.{unmarked}
 use Rattle.marks.proofs.unmark.Given as goal
 
-abbrev pub invariant-loop-i : goal.invariant-loop-i
-invariant-loop-i l =
+abbrev pub invariant-loop-literal : goal.invariant-loop-literal
+invariant-loop-literal l =
     record {
-      within : l.i ≤ l.count;
-      low_kept : length l.low ≡ length l.fn.low;
-      high_kept : length l.high ≡ length l.fn.high;
-      same : unmarked (l.low ++ l.high) l.clause l.i ≡ unmarked (l.fn.low ++ l.fn.high) l.clause l.count;
+      same : SameValues l.fn.values l.values;
+      left : unmarked (bytes l.values) l.literal-iterator.iter.rest.now (length l.literal-iterator.iter.rest.now)
+          ≡ unmarked (bytes l.fn.values) l.clause (length l.clause);
     }
-
-abbrev pub decreases-loop-i : goal.decreases-loop-i
-decreases-loop-i l = l.i

@@ -1,5 +1,5 @@
 -- Each hint is decided by what `hint_named` found of it.
-use Rattle.std.proofs.Common.{Bool, ℕ, arith}
+use Rattle.std.proofs.Common.{Bool, ℕ, ap, ◌∙◌, arith}
 use Rattle.paper.specs.Session.{Session, hint_in, hint_named}
 use Rattle.names.proofs.Names.{turn, ended}
 use Rattle.names.proofs.all_hints_named.Goals as goal
@@ -9,16 +9,16 @@ passes s word = hint_named s.sheet s.work (hint_in word)
 
 pub returns-then-not-hint_named : goal.returns-then-not-hint_named
 returns-then-not-hint_named c s inputs r e held =
-    rw c.if-not-hint_named.true at (turn (passes s) c.args.hints.now c.loop-i.i (c.loop-i.invariant.same s inputs r e held) 0 _ c.loop-i-test.true
-    (c.hint_named.ensures s inputs r e held))
+    rw c.if-not-hint_named.true at (turn (passes s) c.args.hints.now c.loop-word.word-index (c.loop-word.invariant.same s inputs r e held) 0 _ c.loop-word-test.true
+    (c.hint_named.ensures s inputs r e held ∙ ap (hint_named s.sheet s.work) c.from.ensures))
 
-pub loop-i-preserved : goal.loop-i-preserved
-loop-i-preserved c =
+pub loop-word-preserved : goal.loop-word-preserved
+loop-word-preserved c =
     record {
       within = omega arith;
-      same = λ s inputs r e held. rw c.if-not-hint_named.false at (turn (passes s) c.args.hints.now c.loop-i.i
-          (c.loop-i.invariant.same s inputs r e held) 0 _ c.loop-i-test.true (c.hint_named.ensures s inputs r e held));
+      same = λ s inputs r e held. rw c.if-not-hint_named.false at (turn (passes s) c.args.hints.now c.loop-word.word-index
+          (c.loop-word.invariant.same s inputs r e held) 0 _ c.loop-word-test.true (c.hint_named.ensures s inputs r e held ∙ ap (hint_named s.sheet s.work) c.from.ensures));
     }
 
 pub returns : goal.returns
-returns c s inputs r e held = ended (passes s) c.args.hints.now c.loop-i.i (c.loop-i.invariant.same s inputs r e held) (omega arith)
+returns c s inputs r e held = ended (passes s) c.args.hints.now c.loop-word.word-index (c.loop-word.invariant.same s inputs r e held) (omega arith)

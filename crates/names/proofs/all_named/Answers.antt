@@ -6,21 +6,21 @@ use Rattle.names.proofs.all_named.Goals as goal
 
 pub returns-then-not-named : goal.returns-then-not-named
 returns-then-not-named c s inputs r w e held =
-    let l = slice_index_or c.args.clause.now c.loop-i.i (pos 0) in
+    let l = slice_index_or c.args.clause.now c.loop-literal.literal-index (pos 0) in
     let z : to_z w32 (of_z w32 l) ≡ l = search rules in
-    rw c.if-not-named.true at (turn (named_literal s.sheet s.work) c.args.clause.now c.loop-i.i (c.loop-i.invariant.same s inputs r w e held)
-    (pos 0) _ c.loop-i-test.true (c.named.ensures s inputs r w e held ∙ ap (named_literal s.sheet s.work) z))
+    rw c.if-not-named.true at (turn (named_literal s.sheet s.work) c.args.clause.now c.loop-literal.literal-index (c.loop-literal.invariant.same s inputs r w e held)
+    (pos 0) _ c.loop-literal-test.true (c.named.ensures s inputs r w e held ∙ ap (named_literal s.sheet s.work) z))
 
-pub loop-i-preserved : goal.loop-i-preserved
-loop-i-preserved c =
-    let l = slice_index_or c.args.clause.now c.loop-i.i (pos 0) in
+pub loop-literal-preserved : goal.loop-literal-preserved
+loop-literal-preserved c =
+    let l = slice_index_or c.args.clause.now c.loop-literal.literal-index (pos 0) in
     let z : to_z w32 (of_z w32 l) ≡ l = search rules in
     record {
       within = omega arith;
-      same = λ s inputs r w e held. rw c.if-not-named.false at (turn (named_literal s.sheet s.work) c.args.clause.now c.loop-i.i
-          (c.loop-i.invariant.same s inputs r w e held) (pos 0) _ c.loop-i-test.true
+      same = λ s inputs r w e held. rw c.if-not-named.false at (turn (named_literal s.sheet s.work) c.args.clause.now c.loop-literal.literal-index
+          (c.loop-literal.invariant.same s inputs r w e held) (pos 0) _ c.loop-literal-test.true
           (c.named.ensures s inputs r w e held ∙ ap (named_literal s.sheet s.work) z));
     }
 
 pub returns : goal.returns
-returns c s inputs r w e held = ended _ c.args.clause.now c.loop-i.i (c.loop-i.invariant.same s inputs r w e held) (omega arith)
+returns c s inputs r w e held = ended _ c.args.clause.now c.loop-literal.literal-index (c.loop-literal.invariant.same s inputs r w e held) (omega arith)

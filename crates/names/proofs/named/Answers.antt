@@ -5,15 +5,15 @@ use Rattle.paper.specs.Clauses.{variable}
 use Rattle.names.proofs.Names.{problem_name, wish_name, counter_name}
 use Rattle.names.proofs.named.Goals as goal
 
-pub returns-then-variable-lt1 : goal.returns-then-variable-lt1
-returns-then-variable-lt1 c s inputs r w e held =
+pub returns-else-variable-ge1 : goal.returns-else-variable-ge1
+returns-else-variable-ge1 c s inputs r w e held =
     let l = c.args.literal in
     let z : to_z w32 (of_z w32 l) ≡ l = search rules in
     let v : variable l ≡ c.variable_of-variable.result = sym (c.variable_of-variable.ensures ∙ ap variable z) in
-    rw (problem_name s r l (omega arith), v, lt-leb 1 c.variable_of-variable.result c.if-variable-lt1.true)
+    rw (problem_name s r l (omega arith), v, lt-leb 1 c.variable_of-variable.result (omega arith))
 
-pub returns-then-variable-lt-FIRST_WISH : goal.returns-then-variable-lt-FIRST_WISH
-returns-then-variable-lt-FIRST_WISH c s inputs r w e held =
+pub returns-then-variable-ge1 : goal.returns-then-variable-ge1
+returns-then-variable-ge1 c s inputs r w e held =
     let l = c.args.literal in
     let z : to_z w32 (of_z w32 l) ≡ l = search rules in
     let v : variable l ≡ c.variable_of-variable.result = sym (c.variable_of-variable.ensures ∙ ap variable z) in

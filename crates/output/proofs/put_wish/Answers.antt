@@ -9,5 +9,5 @@ returns-then-not-has_place c =
 
 pub returns : goal.returns
 returns c =
-    let written = written-append (written-append c.put_start-place.ensures c.put_four-behind.ensures) c.put_literals.ensures in
+    let written = written-append (written-append c.put_start-place.ensures (rw c.from.ensures at c.put_four-behind.ensures)) c.put_literals.ensures in
     put c.args.out.now c.args.at _ _ (length_wish c.args.weight c.args.literals.now) c.has_place.ensures c.if-not-has_place.false (rw (wish_bytes c.args.weight c.args.literals.now) written)

@@ -1,6 +1,9 @@
--- One more byte is cleared.
-use Rattle.output.proofs.Rooms.{cleared_more}
+-- What is filled from a place on was all that stood there.
+use Rattle.std.proofs.Common.{rules, ◌≡◌, ◌-◌, length, replicate}
+use Rattle.output.proofs.Rooms.{cleared}
 use Rattle.output.proofs.zero_from.Goals as goal
 
-pub loop-i-preserved : goal.loop-i-preserved
-loop-i-preserved c = cleared_more c.loop-i.invariant c.loop-i-test.true
+pub returns : goal.returns
+returns c =
+    let zeros : c.fill.new.self ≡ replicate (length c.args.out.now - c.min-from.result) 0 = search rules in
+    cleared c.args.out.now c.args.at _ _ c.min-from.ensures zeros

@@ -1,27 +1,25 @@
 -- Each turn reads on where the one before stopped.
 use Rattle.std.proofs.Common.{◌++◌, [], arith, ap, length-append, sym, subst}
 use Rattle.std.proofs.KnownBytes.{Consumes-nil, Consumes-trans}
-use Rattle.paper.specs.declared.Tally.{Tally}
 use Rattle.paper.specs.Session.{fresh}
-use Rattle.rooms.specs.Kept.{Kept}
-use Rattle.rooms.proofs.Kept.{nothing_kept}
+use Rattle.rooms.proofs.Kept.{fresh_kept}
 use Rattle.turns.specs.Turns.{Within}
 use Rattle.turns.specs.declared.State.{State}
 use Rattle.stream.proofs.run.Goals as goal
 
 -- A fresh run stands at a fresh session.
-pub loop-turns-init : goal.loop-turns-init
-loop-turns-init g c =
+pub loop-turn-init : goal.loop-turn-init
+loop-turn-init g c =
     let told = c.fresh-state.ensures in
     record {
       came = ([], Consumes-nil _, omega (arith, ap (λ (x : State). x.unread) told));
       within = subst (λ (x : State). Within x _) (sym told) (record { up = omega arith; fits = omega arith });
-      standing = record { session = fresh; kept = subst (λ (x : Tally). Kept x _ _ fresh) (sym (ap (λ (x : State). x.tally) told)) nothing_kept };
+      standing = record { session = fresh; kept = fresh_kept _ _ (ap (λ (x : State). x.tally) told) c.fresh-rooms.ensures };
     }
 
-pub loop-turns-preserved : goal.loop-turns-preserved
-loop-turns-preserved g c =
-    let before = c.loop-turns.invariant in
+pub loop-turn-preserved : goal.loop-turn-preserved
+loop-turn-preserved g c =
+    let before = c.loop-turn.invariant in
     let turn = c.turn-state.ensures in
     let turned = turn.turned before.standing.session before.standing.kept in
     record {

@@ -1,8 +1,11 @@
--- `tables::entry_of` meets its contract: the list at a place is the count there.
-use Rattle.std.proofs.Common.{◌∙◌, arith}
+-- What is read is the count at the place, and 0 past the table's end.
+use Rattle.std.proofs.Common.{◌≡◌, ◌∙◌, arith, get_or}
+use Rattle.std.proofs.lemmas.Grind.{common_steps}
+use Rattle.std.proofs.lemmas.Option.{gets}
 use Rattle.tables.proofs.Entries.{table_entry}
 use Rattle.tables.proofs.entry_of.Goals as goal
 
-pub returns-then-inputs-le64 : goal.returns-then-inputs-le64
-returns-then-inputs-le64 c count e =
-    ((λ h. c.wide.ensures ∙ rw e (table_entry count c.args.inputs h)), λ h. absurd (omega (arith, h, c.if-inputs-le64.true)))
+pub returns : goal.returns
+returns c count e =
+    let read : c.from.result ≡ get_or c.args.table.now c.args.inputs 0 = grind (arith, common_steps, gets) in
+    (λ h. read ∙ rw e (table_entry count c.args.inputs h), λ h. grind (arith, common_steps, gets))

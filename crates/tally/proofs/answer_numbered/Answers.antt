@@ -7,4 +7,4 @@ use Rattle.tally.proofs.answer_numbered.Goals as goal
 pub returns-clause-answered : goal.returns-clause-answered
 returns-clause-answered c = λ s k.
     let step = c.answer_record-out.ensures.answered s k in
-    (c.numbers_of.ensures ∙ ap (λ (o : Outcome). numbers o.answer) step.0, step.1)
+    (c.from.ensures ∙ ap (λ (o : Outcome). numbers o.answer) step.0, step.1)

@@ -1,20 +1,18 @@
 -- Each turn counts one word of the truths that are still to come.
-use Rattle.std.proofs.Common.{ap, arith, drop_of_length-le}
+use Rattle.std.proofs.Common.{◌∙◌, ap, arith}
 use Rattle.truths.specs.Truths.{true_bytes}
-use Rattle.truths.proofs.Ones.{at_most, block}
+use Rattle.truths.proofs.Ones.{at_most, apart}
 use Rattle.truths.proofs.true_inputs.Goals as goal
 
 pub overflow_add-count : goal.overflow_add-count
 overflow_add-count c =
-    let truths = c.args.truths.now in
-    let parts = block truths c.loop-at.at c.block_end-end.result (omega arith) in
-    omega (arith, at_most truths)
+    let parts = ap true_bytes c.in-Some.ensures.steps.1.0 ∙ apart c.in-Some.block.now _ in
+    omega (arith, at_most c.args.truths.now)
 
-pub loop-at-preserved : goal.loop-at-preserved
-loop-at-preserved c =
-    let parts = block c.args.truths.now c.loop-at.at c.block_end-end.result (omega arith) in
-    record { within = omega arith; together = omega arith }
+pub loop-block-preserved : goal.loop-block-preserved
+loop-block-preserved c =
+    let parts = ap true_bytes c.in-Some.ensures.steps.1.0 ∙ apart c.in-Some.block.now _ in
+    record { size = c.in-Some.ensures.steps.0 ∙ c.loop-block.invariant.size; together = omega arith }
 
 pub returns : goal.returns
-unfolding true_bytes
-returns c = omega (arith, ap true_bytes (drop_of_length-le c.args.truths.now c.loop-at-test.false))
+returns c = omega (arith, c.in-None.ensures.steps, at_most c.loop-block.block-iterator.rest.now)

@@ -6,12 +6,11 @@ use Rattle.weigh.proofs.weigh_counters.Goals as goal
 
 pub loop-number-init : goal.loop-number-init
 unfolding counter_sum
-loop-number-init c = record { within = omega arith; fits = omega arith; weighed = λ s a t f size W M. (M, refl) }
+loop-number-init c = record { fits = omega arith; weighed = λ s a t f size W M. (M, refl) }
 
 pub loop-number-preserved : goal.loop-number-preserved
 loop-number-preserved c =
     record {
-      within = omega arith;
       fits = omega arith;
       weighed =
           λ s a t f size W M.

@@ -1,28 +1,31 @@
--- Each way out is what one byte makes of the blanks and comments that are still to be passed.
-use Rattle.std.proofs.Common.{arith, sym, ◌∙◌}
-use Rattle.words.proofs.Gaps.{comment_starts, c_in_line, word_starts, blank_passed}
+-- Each way out is what the byte behind the blanks, or the line's end behind a comment, makes of what is still to be passed.
+use Rattle.std.proofs.Common.{rules, sym, ◌∙◌}
+use Rattle.words.proofs.Gaps.{ends_over, ends_at_comment, ends_at_c, ends_at_word, comment_stays, comment_closes}
+use Rattle.words.proofs.+skip_blanks_skip_comment.Goals.{skip_blanks-else-place-text-via-then-place-text+then-text-place-eq99+else-starts_line, skip_blanks-else-place-text-via-then-place-text+else-text-place-eq99, skip_blanks-else-place-text-via-else-place-text}
 use Rattle.words.proofs.+skip_blanks_skip_comment.Goals as goal
 
 pub skip_blanks-returns-then-starts_line : goal.skip_blanks-returns-then-starts_line
 skip_blanks-returns-then-starts_line t c =
     let starts = sym c.starts_line.ensures ∙ c.if-starts_line.true in
-    let passed = c.loop-place.invariant.same in
-    c.skip_comment.ensures ∙ sym (passed ∙ comment_starts _ _ c.loop-place-test.true c.if-byte-eq99.true starts)
+    c.skip_comment.ensures
+    ∙ sym (ends_at_comment c.args.text.now c.args.at _ c.blanks_end-place.ensures c.if-place-text.true c.if-text-place-eq99.true starts)
 
-pub skip_blanks-returns-then-byte-eq99 : goal.skip_blanks-returns-then-byte-eq99
-skip_blanks-returns-then-byte-eq99 t c =
-    let in_line = sym c.starts_line.ensures ∙ c.if-starts_line.false in
-    sym (c.loop-place.invariant.same ∙ c_in_line _ _ c.loop-place-test.true c.if-byte-eq99.true in_line)
+pub skip_blanks-returns : goal.skip_blanks-returns
+skip_blanks-returns t c =
+    let text = c.args.text.now in
+    let at = c.args.at in
+    let ends = c.blanks_end-place.ensures in
+    sym (elim c.else-place-text.branch [
+      | skip_blanks-else-place-text-via-then-place-text+then-text-place-eq99+else-starts_line w ↦
+          ends_at_c text at _ ends w.if-place-text.true w.if-text-place-eq99.true (sym w.starts_line.ensures ∙ w.if-starts_line.false)
+      | skip_blanks-else-place-text-via-then-place-text+else-text-place-eq99 w ↦
+          ends_at_word text at _ ends w.if-place-text.true w.if-text-place-eq99.false
+      | skip_blanks-else-place-text-via-else-place-text w ↦ ends_over text at _ ends w.if-place-text.false
+    ])
 
-pub skip_blanks-returns-then-not-is_blank : goal.skip_blanks-returns-then-not-is_blank
-skip_blanks-returns-then-not-is_blank t c =
-    let no_blank = sym c.is_blank.ensures ∙ c.if-not-is_blank.true in
-    sym (c.loop-place.invariant.same ∙ word_starts _ _ c.loop-place-test.true c.if-byte-eq99.false no_blank)
+pub skip_comment-returns-then-end-text : goal.skip_comment-returns-then-end-text
+skip_comment-returns-then-end-text t c =
+    c.skip_blanks.ensures ∙ sym (comment_closes c.args.text.now c.args.at _ (search rules) c.if-end-text.true)
 
-pub skip_blanks-loop-place-preserved : goal.skip_blanks-loop-place-preserved
-skip_blanks-loop-place-preserved t c =
-    let blank = sym c.is_blank.ensures ∙ c.if-not-is_blank.false in
-    record {
-      onward = omega arith;
-      same = c.loop-place.invariant.same ∙ blank_passed _ _ c.loop-place-test.true c.if-byte-eq99.false blank;
-    }
+pub skip_comment-returns : goal.skip_comment-returns
+skip_comment-returns t c = sym (comment_stays c.args.text.now c.args.at _ (search rules) c.if-end-text.false)

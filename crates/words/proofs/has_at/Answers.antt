@@ -1,8 +1,7 @@
--- Where the text is at its end, the word goes on.
-use Rattle.std.proofs.Common.{arith}
-use Rattle.std.proofs.lemmas.Grind.{common_steps}
-use Rattle.words.proofs.Beginnings.{text_over}
+-- What is compared is the front of what is left.
+use Rattle.std.proofs.Common.{◌∙◌}
+use Rattle.words.proofs.Beginnings.{begins_so}
 use Rattle.words.proofs.has_at.Goals as goal
 
-pub returns-then-text-place : goal.returns-then-text-place
-returns-then-text-place c = grind (arith, common_steps, text_over)
+pub returns : goal.returns
+returns c = c.starts_with.ensures.value ∙ rw c.rest_of.ensures (begins_so c.args.word.now _)

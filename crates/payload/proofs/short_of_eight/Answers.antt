@@ -1,7 +1,0 @@
--- Two parts of 4 bytes.
-use Rattle.std.proofs.Common.{arith}
-use Rattle.payload.proofs.Numbers.{joined}
-use Rattle.payload.proofs.short_of_eight.Goals as goal
-
-pub returns : goal.returns
-returns c = omega (arith, rw (← c.after-place.ensures) at (joined 4 4 c.args.at c.args.bytes.now))

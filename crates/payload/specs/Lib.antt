@@ -1,0 +1,2 @@
+-- What the traits of this crate promise of the numbers in bytes.
+pub mod Items

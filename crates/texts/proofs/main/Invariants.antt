@@ -1,6 +1,0 @@
--- The numbers that are left get fewer. Nothing has to hold from text to text.
-use Rattle.std.proofs.Common.{◌-◌}
-use Rattle.texts.proofs.main.Given as goal
-
-abbrev pub decreases-loop-number : goal.decreases-loop-number
-decreases-loop-number l = 18446744073709551615 - l.number
