@@ -18,8 +18,6 @@ use Rattle.paper.specs.declared.Tally.{Tally}
 use Rattle.paper.specs.declared.Answer.TheVariants.{Derived, Refused}
 use Rattle.paper.specs.Clauses.{Clause, every, pick}
 use Rattle.paper.specs.Session.{Session, Hint, tally_of, hint_in, hint_named, hint_clause, named_literal}
-use Rattle.paper.specs.Reasons.{reason_number}
-use Rattle.paper.specs.declared.Reason.{Reason}
 use Rattle.paper.specs.Answers.{Refusal, refuse}
 use Rattle.paper.specs.Derivation.{shows, misfit, assume}
 use Rattle.paper.specs.Steps.{derive, admission, full, next, outcome}
@@ -72,10 +70,6 @@ zeros_wide s r values z = rw (reached_narrow s r) z
 -- The value rooms as they were are zeros as they were.
 pub zeros_kept : {u : Width} {low low' high high' : List ℕ} → low' ≡ low → high' ≡ high → Zeros u (low ++ high) → Zeros u (low' ++ high')
 zeros_kept e f z = rw (e, f) z
-
--- Each reason has a number.
-pub some_number : (reason : Reason) → reason_number reason ≡ 0 → ⊥
-some_number reason e = grind arith
 
 -- A hint that does not fit has a place, counted from 1.
 pub some_place : (misfit : Option ℕ) → misfit ≢ Some 0 → true ≡ is_some misfit → place_of misfit ≡ 0 → ⊥

@@ -17,8 +17,6 @@ use Rattle.paper.specs.Sizes.{narrow, most_weight}
 use Rattle.paper.specs.Clauses.{Clause}
 use Rattle.paper.specs.Session.{problem_literal}
 use Rattle.paper.specs.Answers.{lowest}
-use Rattle.paper.specs.declared.Reason.{Reason}
-use Rattle.paper.specs.declared.Reason.TheVariants.{NoRecord, UnknownKind, OutOfTurn, WrongForm, WrongVariables, WrongWeight, TooManyLiterals, StrangeLiteral, VariableTwice, StrangeHint, NotShown, NoSuchClause, NoCore, NoRoom, BrokenRule, NoHeader, NoNumber, CutShort, WrongCount, ShortRoom}
 use Rattle.paper.specs.Reasons.{reason_number}
 use Rattle.paper.specs.Steps.{admission}
 use Rattle.paper.specs.Records.{Record}
@@ -37,29 +35,6 @@ use Rattle.wcnf.specs.Steps.{clause_from, OneClause, Came}
 
 abbrev bad_weight : Header → ℕ → Bool
 bad_weight h weight = not (eqb weight h.top) && not (leb 1 weight && leb weight most_weight)
-
--- No reason's number is 0.
-pub some_number : (r : Reason) → reason_number r ≢ 0
-some_number NoRecord e = omega (arith, e)
-some_number UnknownKind e = omega (arith, e)
-some_number OutOfTurn e = omega (arith, e)
-some_number WrongForm e = omega (arith, e)
-some_number WrongVariables e = omega (arith, e)
-some_number WrongWeight e = omega (arith, e)
-some_number TooManyLiterals e = omega (arith, e)
-some_number StrangeLiteral e = omega (arith, e)
-some_number VariableTwice e = omega (arith, e)
-some_number StrangeHint e = omega (arith, e)
-some_number NotShown e = omega (arith, e)
-some_number NoSuchClause e = omega (arith, e)
-some_number NoCore e = omega (arith, e)
-some_number NoRoom e = omega (arith, e)
-some_number BrokenRule e = omega (arith, e)
-some_number NoHeader e = omega (arith, e)
-some_number NoNumber e = omega (arith, e)
-some_number CutShort e = omega (arith, e)
-some_number WrongCount e = omega (arith, e)
-some_number ShortRoom e = omega (arith, e)
 
 module _ (h : Header) (weight : ℕ) (c : Clause) where
   pub admitted : (r : ℕ) → bad_weight h weight ≡ false → r ≡ lowest (admission narrow (problem_literal h.variables) c)

@@ -3,7 +3,8 @@ use Rattle.std.proofs.Common.{◌∙◌, ap, refl, sym}
 use Rattle.paper.specs.Reasons.{reason_number, refusal_number}
 use Rattle.paper.proofs.Reach.{reached_narrow}
 use Rattle.derive.specs.Derivations.{place_of}
-use Rattle.derived.proofs.Derives.{zeros_wide, zeros_kept, short_enough, held_seen, some_number, some_place, no_place, clause_passed, derive_refused, derive_many, derive_unnamed, derive_unshown, derive_crowded, derive_full, derive_stored}
+use Rattle.clauses.proofs.Lowest.{reason_some}
+use Rattle.derived.proofs.Derives.{zeros_wide, zeros_kept, short_enough, held_seen, some_place, no_place, clause_passed, derive_refused, derive_many, derive_unnamed, derive_unshown, derive_crowded, derive_full, derive_stored}
 use Rattle.derived.proofs.derive.Goals.{then-hints-gt-MOST_HINTS-via-then-hints-gt-MOST_HINTS, then-hints-gt-MOST_HINTS-via-else-hints-gt-MOST_HINTS+then-not-all_hints_named}
 use Rattle.derived.proofs.derive.Goals.{then-tally-ge-MOST_DERIVED-via-then-tally-ge-MOST_DERIVED, then-tally-ge-MOST_DERIVED-via-else-tally-ge-MOST_DERIVED+then-not-append}
 use Rattle.derived.proofs.derive.Goals as goal
@@ -15,7 +16,7 @@ returns-in-Err-clause-stepped c =
     let wide = c.width_of-width.ensures ∙ sym (reached_narrow s r) in
     let found = c.named_refusal.ensures.answer s a.counters.literals.now r wide eq H.counters (zeros_wide s r _ z) in
     let l = derive_refused s a.tally eq a.clause.now a.hints.now a.derived.now.literals.now a.derived.now.ends.now H.derived c.if-tally-eq0.false
-    (reason_number c.in-Err.reason) (sym (ap refusal_number c.in-Err.is) ∙ found) (some_number c.in-Err.reason) in
+    (reason_number c.in-Err.reason) (sym (ap refusal_number c.in-Err.is) ∙ found) (reason_some c.in-Err.reason) in
     (c.refuse-in-Err.ensures ∙ l.0, l.1)
 
 pub returns-then-hints-gt-MOST_HINTS-clause-stepped : goal.returns-then-hints-gt-MOST_HINTS-clause-stepped

@@ -5,14 +5,15 @@ use Rattle.paper.specs.Reasons.{reason_number}
 use Rattle.paper.specs.Texts.{value, clause_record, clause_refusal}
 use Rattle.literals.specs.Reading.{literals_at}
 use Rattle.output.proofs.Rooms.{put-length}
-use Rattle.wcnf.proofs.Laws.{some_number, keeps, no_literals, not_allowed, allowed, weight_is, one_fault}
+use Rattle.clauses.proofs.Lowest.{reason_some}
+use Rattle.wcnf.proofs.Laws.{keeps, no_literals, not_allowed, allowed, weight_is, one_fault}
 use Rattle.wcnf.proofs.read_clause.Goals as goal
 
 pub returns-in_err-read-clause-one_clause : goal.returns-in_err-read-clause-one_clause
 returns-in_err-read-clause-one_clause c =
     let R = c.in_err-read.ensures in
     let W = weight_is c.args.text.now c.args.start c.args.end _ c.in-Some.ensures in
-    let some = some_number c.in_err-read.field-0.0.reason in
+    let some = reason_some c.in_err-read.field-0.0.reason in
     let is = no_literals c.args.text.now c.args.header c.args.start c.args.end W.0 (λ z. some (R.number_is ∙ z)) in
     one_fault c.args.text.now c.args.header c.args.start c.args.end _ c.args.at _ _ _ c.from_residual.ensures.1 refl
     (λ done. rw (R.number_is, R.position_is) (is done))
@@ -29,7 +30,7 @@ returns-in-Err-clause-one_clause c =
     = rw W.1 (c.in-Err.ensures.answer 2002 lits (same ∙ c.requires.start_lt_end.2) K c.requires.high_value.0 c.requires.high_value.1) in
     record {
       size = refl;
-      read = not_allowed text c.args.header c.args.start c.args.end W.0 (sym R.number_is) _ number (some_number c.in-Err.reason);
+      read = not_allowed text c.args.header c.args.start c.args.end W.0 (sym R.number_is) _ number (reason_some c.in-Err.reason);
     }
 
 pub returns-clause-one_clause : goal.returns-clause-one_clause
