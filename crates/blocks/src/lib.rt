@@ -2,15 +2,15 @@
 // other, and their lines stand in a lent buffer. A law of the paper says that a run may be cut so at any place.
 #![tactic(auto)]
 
-ghost use Rattle.std.specs.Prelude.{◌≡◌, [], ◌∷◌, ◌++◌, ◌+◌, ◌*◌, ◌^◌, ◌<◌, ◌≤◌, length, drop};
+ghost use Rattle.std.specs.Prelude.{◌≡◌, [], ◌∷◌, ◌+◌, ◌*◌, ◌^◌, ◌<◌, ◌≤◌, length, drop};
 ghost use Rattle.std.proofs.lemmas.List.Edits.{sets};
 ghost use Rattle.paper.specs.Session.{Session};
 ghost use Rattle.paper.specs.Inputs.{front, record_in, records_in, after, text};
-ghost use Rattle.rooms.specs.Owned.{rooms_in, values_in, Keeps};
+ghost use Rattle.rooms.specs.Lent.{rooms_in, values_in, Keeps, SameRooms, KeptWork};
 ghost use Rattle.blocks.specs.Blocks.{Moved, CarriedOn, most_records, taken_from, lines_in, progress_of};
 
 use paper::{Answer, Front, Numbers, Outcome, Reason, Tally};
-use rooms::Rooms;
+use rooms::RoomsMut;
 
 // How far a run has come.
 #[derive(Clone, Copy)]
@@ -29,7 +29,7 @@ pub struct Progress {
 // Answers the record of this size that stands whole where the run has come to, and puts its line behind the others.
 fn answer_next(
     progress: Progress,
-    rooms: &mut Rooms,
+    rooms: &mut RoomsMut,
     block: &[u8],
     size: usize,
     out: &mut [u8],
@@ -37,7 +37,8 @@ fn answer_next(
     requires block_value { front (drop progress.consumed block.now) ≡ Front.Whole size }
     requires place_bound { progress.place + 1 < 2 ^ 64 }
     requires written_in_bounds { progress.written + 65 ≤ length out.old }
-    ensures kept { (rooms.new.low ≡ rooms.old.low) × (rooms.new.high ≡ rooms.old.high) }
+    ensures same { SameRooms rooms.old rooms.new }
+    ensures kept { KeptWork rooms.old rooms.new }
     ensures moved { Moved progress result size (length out.old) (length out.new) }
     ensures ran { CarriedOn progress.tally
         (rooms_in rooms.old) (values_in rooms.old)
@@ -63,7 +64,7 @@ fn answer_next(
 // Answers records as long as one stands whole, but no more than `most`.
 fn run_records(
     tally: Tally,
-    rooms: &mut Rooms,
+    rooms: &mut RoomsMut,
     block: &[u8],
     most: u64,
     place: u64,
@@ -71,7 +72,8 @@ fn run_records(
 ) -> Progress
     requires most_bound { place + most < 2 ^ 64 }
     requires most_in_bounds { 65 * most ≤ length out.old }
-    ensures kept { (rooms.new.low ≡ rooms.old.low) × (rooms.new.high ≡ rooms.old.high) }
+    ensures same { SameRooms rooms.old rooms.new }
+    ensures kept { KeptWork rooms.old rooms.new }
     ensures short { result.written ≤ 65 * most }
     ensures ran { CarriedOn tally
         (rooms_in rooms.old) (values_in rooms.old)
@@ -104,13 +106,14 @@ fn most_records(place: u64) -> u64
 // The buffer takes 252 lines. `last` says that nothing follows the block.
 pub fn run_block(
     tally: Tally,
-    rooms: &mut Rooms,
+    rooms: &mut RoomsMut,
     block: &[u8],
     last: bool,
     place: u64,
     out: &mut [u8; 16384],
 ) -> Progress
-    ensures kept { (rooms.new.low ≡ rooms.old.low) × (rooms.new.high ≡ rooms.old.high) }
+    ensures same { SameRooms rooms.old rooms.new }
+    ensures kept { KeptWork rooms.old rooms.new }
     ensures ran { (s : Session) → Keeps tally rooms.old s
         → (result ≡ progress_of last place s block.now (taken_from place block.now))
         × (out.new ≡ sets out.old 0 (text (lines_in last place s block.now (taken_from place block.now))))

@@ -1,20 +1,13 @@
-// A lent buffer that an input comes in: a part of its bytes, and its filling again, where what is left of it goes before what is
+// A lent buffer that an input comes in: its filling, and its filling again, where what is left of it goes before what is
 // read next. What is said is where the bytes go, that they are those that the source gave up, in its order, and that what was left is
 // kept. Of a source whose bytes are not known, as standard input, the middle part says nothing.
 #![tactic(auto)]
 
 ghost use Rattle.std.specs.Prelude.{◌≡◌, ℕ, List, ◌+◌, ◌-◌, ◌^◌, ◌≤◌, ◌<◌, length, take, drop};
 ghost use Rattle.std.specs.Io.KnownBytes.{Consumes};
-ghost use Rattle.buffers.specs.Parts.{part_of};
+ghost use Rattle.slices.specs.Slices.{part_of};
 
 use std::io::Read;
-
-// A part of some bytes, or none of them where there is no such part.
-pub fn part(bytes: &[u8], start: usize, end: usize) -> &[u8]
-    ensures { result.now ≡ part_of bytes.now start end }
-{
-    bytes.get(start..end).unwrap_or(&[])
-}
 
 // The bytes of a part go to the front; the answer is how many they are.
 fn move_to_front(bytes: &mut [u8], start: usize, end: usize) -> usize

@@ -9,12 +9,14 @@ ghost use Rattle.paper.specs.Session.{Session, tally_of};
 ghost use Rattle.paper.specs.Truth.{arranged, meets, cost};
 ghost use Rattle.paper.specs.Runs.{Reached};
 ghost use Rattle.paper.specs.Inputs.{text};
+ghost use Rattle.paper.specs.Worked.{input_bytes};
 ghost use Rattle.rooms.specs.Held.{HeldIn, HeldCounters, HeldWeights, wish_family};
 ghost use Rattle.caller.specs.Worked.{worked_lines};
 
 use clauses::FamilyRooms;
 use paper::Tally;
-use rooms::Rooms;
+use rooms::{Rooms, RoomsMut};
+use weights::WeightRooms;
 
 // A weighing over a session's rooms, with work rooms of its own.
 fn weighed(tally: Tally, rooms: &Rooms, arrangement: &[u8]) -> u64
@@ -35,12 +37,15 @@ fn weighed(tally: Tally, rooms: &Rooms, arrangement: &[u8]) -> u64
         literals: &rooms.inputs,
         ends: &rooms.counter_ends,
     };
+    let weights = WeightRooms {
+        wishes: &rooms.left,
+        outputs: &rooms.outputs,
+    };
     weigh::weigh(
         tally,
         wishes,
         counters,
-        &rooms.left,
-        &rooms.outputs,
+        weights,
         arrangement,
         &mut broken,
         &mut counts,
@@ -56,11 +61,11 @@ pub struct Worked {
     pub weight: u64,
 }
 
-pub fn worked_run(out: &mut [u8; 16384]) -> Worked
-    ensures { (out.new ≡ sets out.old 0 (text worked_lines)) × (result.written ≡ length (text worked_lines)) × (result.weight ≡ 6) }
+// The bytes of the worked run.
+fn worked_input() -> &'static [u8]
+    ensures { result.now ≡ input_bytes }
 {
-    let mut rooms = Rooms::fresh();
-    let records = b"\x06\0\0\0\x01\0\x03\0\0\0\
+    b"\x06\0\0\0\x01\0\x03\0\0\0\
         \x0a\0\0\0\x02\0\x01\0\0\0\x02\0\0\0\
         \x0a\0\0\0\x02\0\x02\0\0\0\x03\0\0\0\
         \x0a\0\0\0\x02\0\x01\0\0\0\x03\0\0\0\
@@ -80,8 +85,30 @@ pub fn worked_run(out: &mut [u8; 16384]) -> Worked
         \x06\0\0\0\x05\0\x03\0\0\0\
         \x03\0\0\0\x06\0\x06\
         \x06\0\0\0\x05\0\0\0\0\0\
-        \x03\0\0\0\x06\0\x01";
-    let done = blocks::run_block(Tally::default(), &mut rooms, records, true, 1, out);
+        \x03\0\0\0\x06\0\x01"
+}
+
+pub fn worked_run(out: &mut [u8; 16384]) -> Worked
+    ensures { (out.new ≡ sets out.old 0 (text worked_lines)) × (result.written ≡ length (text worked_lines)) × (result.weight ≡ 6) }
+{
+    let mut rooms = Rooms::fresh();
+    let mut lent = RoomsMut {
+        rules: &mut rooms.rules,
+        rule_ends: &mut rooms.rule_ends,
+        wishes: &mut rooms.wishes,
+        wish_ends: &mut rooms.wish_ends,
+        wish_weights: &mut rooms.wish_weights,
+        derived: &mut rooms.derived,
+        derived_ends: &mut rooms.derived_ends,
+        inputs: &mut rooms.inputs,
+        counter_ends: &mut rooms.counter_ends,
+        left: &mut rooms.left,
+        outputs: &mut rooms.outputs,
+        low: &mut rooms.low,
+        high: &mut rooms.high,
+    };
+    let records = worked_input();
+    let done = blocks::run_block(Tally::default(), &mut lent, records, true, 1, out);
     let arrangement = [6u8];
     Worked {
         written: done.written,

@@ -10,9 +10,11 @@ use lib.IntN.{ℤ, pos}
 use lib.ListN.{length, take, drop, get_or, set, replicate, length-append, length-replicate, get_or-append, get_or-eq_default}
 use lib.Seq.{paste, take-append_seam, drop-append-add, take_at, set_at, take-length, ext_get_or}
 use borrow.Author.Tests.{le-leb, lt-leb, lt-ltb, le-ltb, ltb-true, ltb-false}
+use Rattle.slices.specs.Slices.{part_of}
+use Rattle.slices.proofs.Parts.{part_is}
 use Rattle.paper.specs.Clauses.{Clause, literals_in}
 use Rattle.paper.specs.Steps.{full}
-use Rattle.clauses.specs.Family.{flat, ends_from, flat_room, ends_room, Holds, room_of, start_in, part_of, Appended}
+use Rattle.clauses.specs.Family.{flat, ends_from, flat_room, ends_room, Holds, room_of, start_in, Appended}
 use Rattle.paper.proofs.Lists.{getD-right}
 use Rattle.clauses.proofs.Lists.{drop-replicate, get_d_same, unlike}
 
@@ -165,8 +167,7 @@ module _
           let a : start ≤ end = omega (arith, sized i h, end_is) in
           let next = start_is (suc i) g in
           let b : end ≤ length literals = omega (arith, end_is, next, literals_within family (suc i), length_literals, H.fits) in
-          simp (le-leb _ _ a, le-leb _ _ b)
-          (rw (many, at, H.literals_are) (flat_part family (replicate (size - literals_in family) (pos 0)) i g))
+          rw (part_is literals start end a b, many, at, H.literals_are) (flat_part family (replicate (size - literals_in family) (pos 0)) i g)
 
       pub size_is : end - start ≡ length (get_or family i [])
       size_is = go (ltb i count) refl

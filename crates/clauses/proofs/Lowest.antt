@@ -12,7 +12,6 @@ use Rattle.paper.specs.Steps.{admission}
 use Rattle.paper.specs.declared.Answer.{Answer}
 use Rattle.paper.specs.declared.Answer.TheVariants.{Refused}
 use Rattle.paper.specs.declared.Reason.{Reason}
-use Rattle.paper.specs.declared.Reason.TheVariants.{NoRecord, UnknownKind, OutOfTurn, WrongForm, WrongVariables, WrongWeight, TooManyLiterals, StrangeLiteral, VariableTwice, StrangeHint, NotShown, NoSuchClause, NoCore, NoRoom, BrokenRule, NoHeader, NoNumber, CutShort, WrongCount, ShortRoom}
 use Rattle.paper.specs.Reasons.{reason_number}
 use Rattle.clauses.specs.Lowest.{number_of, lowest, Plain}
 use Rattle.clauses.proofs.Lists.{unlike}
@@ -59,23 +58,4 @@ clear_passes (line ∷ t) rest other e = go line.applies (clear_passes t rest ot
 
 -- No reason has the number 0.
 pub reason_some : (reason : Reason) → reason_number reason ≡ 0 → ⊥
-reason_some NoRecord e = omega arith
-reason_some UnknownKind e = omega arith
-reason_some OutOfTurn e = omega arith
-reason_some WrongForm e = omega arith
-reason_some WrongVariables e = omega arith
-reason_some WrongWeight e = omega arith
-reason_some TooManyLiterals e = omega arith
-reason_some StrangeLiteral e = omega arith
-reason_some VariableTwice e = omega arith
-reason_some StrangeHint e = omega arith
-reason_some NotShown e = omega arith
-reason_some NoSuchClause e = omega arith
-reason_some NoCore e = omega arith
-reason_some NoRoom e = omega arith
-reason_some BrokenRule e = omega arith
-reason_some NoHeader e = omega arith
-reason_some NoNumber e = omega arith
-reason_some CutShort e = omega arith
-reason_some WrongCount e = omega arith
-reason_some ShortRoom e = omega arith
+reason_some = grind arith

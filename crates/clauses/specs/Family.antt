@@ -1,9 +1,9 @@
 -- A family of clauses in two rooms and a count: the literals of one clause after the other, where each clause ends, and zeros
 -- after both. Rules, wishes, derived clauses and the inputs of counters are each such a family. The rooms are a function of the
 -- family, so that to say which family they hold pins every byte of them.
-use Rattle.std.specs.Prelude.{◌≡◌, Bool, true, false, not, List, [], ◌∷◌, ◌++◌, ℕ, zero, suc, ◌+◌, ◌-◌, ◌^◌, ◌≤◌, ◌<◌, leb, ℤ, pos, length, take, drop, get_or, replicate}
+use Rattle.std.specs.Prelude.{◌≡◌, Bool, true, false, not, List, [], ◌∷◌, ◌++◌, ℕ, zero, suc, ◌+◌, ◌-◌, ◌^◌, ◌≤◌, ◌<◌, ℤ, pos, length, get_or, replicate}
 use Rattle.paper.specs.Sizes.{Room}
-use Rattle.paper.specs.Clauses.{Clause, literals_in, pick}
+use Rattle.paper.specs.Clauses.{Clause, literals_in}
 use Rattle.paper.specs.Steps.{full}
 
 -- The clauses end to end.
@@ -37,11 +37,6 @@ room_of size most = record { clauses = most; literals = size }
 abbrev pub start_in : List ℕ → ℕ → ℕ
 start_in ends zero = 0
 start_in ends (suc number) = get_or ends number 0
-
--- The elements from `start` to `end`, none where these bound no part.
-abbrev pub part_of : List ℤ → ℕ → ℕ → List ℤ
-part_of literals start end =
-    pick (leb start end) (pick (leb end (length literals)) (take (end - start) (drop start literals)) []) []
 
 -- What appending a clause answers and leaves. Where it is refused, the rooms are left as they were, whatever they held. An end is
 -- a number of 32 bits, which is why a room that could outgrow that is kept out.

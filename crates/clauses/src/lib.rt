@@ -5,15 +5,16 @@
 
 ghost use Rattle.std.specs.Prelude.{◌≡◌, List, [], ℕ, ◌+◌, ◌^◌, ◌<◌, ℤ, length, get_or};
 ghost use Rattle.paper.specs.Clauses.{Clause};
-ghost use Rattle.clauses.specs.Family.{Holds, start_in, part_of, Appended};
+ghost use Rattle.clauses.specs.Family.{Holds, start_in, Appended};
 ghost use Rattle.clauses.specs.LookUp.{look_up};
 ghost use Rattle.clauses.specs.Lent.{SameFamily};
 
-// The two rooms of a family, to read: the literals of one clause after the other, and where each clause ends.
+// The two rooms of a family, to read: the literals of one clause after the other, and where each clause ends. The count of the clauses
+// is not here: it stands in the tally, which is lent by itself, and a second one would want a clause that the two agree.
 #[derive(Clone, Copy)]
-pub struct FamilyRooms<'a> {
-    pub literals: &'a [i32],
-    pub ends: &'a [u32],
+pub struct FamilyRooms<'literals, 'ends> {
+    pub literals: &'literals [i32],
+    pub ends: &'ends [u32],
 }
 
 // The two rooms of a family, to add to.
@@ -34,16 +35,9 @@ fn start_of(ends: &[u32], number: usize) -> usize
     end as usize
 }
 
-// The same for bytes stands in `buffers`, which `clauses` does not know: the one line is std's, and a function keeps its law.
-fn part(literals: &[i32], start: usize, end: usize) -> &[i32]
-    ensures { result.now ≡ part_of literals.now start end }
-{
-    literals.get(start..end).unwrap_or(&[])
-}
-
-impl<'a> FamilyRooms<'a> {
-    // The very stretch of the room that a clause stands in; an empty one for an absent number.
-    pub fn clause(self, count: u32, number: u32) -> &'a [i32]
+impl<'literals> FamilyRooms<'literals, '_> {
+    // The very stretch of the room that a clause stands in, which outlives the ends; an empty one for an absent number.
+    pub fn clause(self, count: u32, number: u32) -> &'literals [i32]
         ensures { (size most : ℕ) (family : List Clause)
             → Holds size most self.entry.literals.now self.entry.ends.now count family
             → result.now ≡ get_or family number [] }
@@ -53,7 +47,7 @@ impl<'a> FamilyRooms<'a> {
         }
         let start = start_of(self.ends, number as usize);
         let end = start_of(self.ends, number as usize + 1);
-        part(self.literals, start, end)
+        slices::part(self.literals, start, end)
     }
 }
 
@@ -69,7 +63,7 @@ pub fn size_of(ends: &[u32], number: u32) -> usize
 
 impl FamilyRoomsMut<'_> {
     // The rooms as they are now, to read.
-    pub fn view(&self) -> FamilyRooms<'_>
+    pub fn view(&self) -> FamilyRooms<'_, '_>
         ensures { (result.literals.now ≡ self.now.literals.now) × (result.ends.now ≡ self.now.ends.now) }
     {
         FamilyRooms {
@@ -99,15 +93,16 @@ impl FamilyRoomsMut<'_> {
     }
 }
 
-// The stretch of the rule room or of the derived room that a clause stands in, by its family's number in the records.
-pub fn look_up<'a>(
-    rules: FamilyRooms<'a>,
+// The stretch of the rule room or of the derived room that a clause stands in. The family is a number, as it stands in a hint: the
+// definition `look_up` and the documents state it so.
+pub fn look_up<'literals>(
+    rules: FamilyRooms<'literals, '_>,
     rule_count: u32,
-    derived: FamilyRooms<'a>,
+    derived: FamilyRooms<'literals, '_>,
     derived_count: u32,
     family: u32,
     number: u32,
-) -> &'a [i32]
+) -> &'literals [i32]
     ensures { (size most size' most' : ℕ) (ruleFamily derivedFamily : List Clause)
         → Holds size most rules.entry.literals.now rules.entry.ends.now rule_count ruleFamily
         → Holds size' most' derived.entry.literals.now derived.entry.ends.now derived_count derivedFamily

@@ -1,6 +1,6 @@
 -- A core: its table in the shape that the laws of Outcomes take, and what its rooms hold after it.
 use mathlib.Core.Path.{◌≡◌, refl, sym, ◌∙◌, ap, fun_ext}
-use mathlib.Core.Bool.{Bool, true, false, not, ◌&&◌, true≢false}
+use mathlib.Core.Bool.{Bool, true, false, not, ◌&&◌, and-false, true≢false}
 use mathlib.Core.List.{List, [], ◌∷◌, ◌++◌, map}
 use Prim.Native.Nat.{ℕ, zero, suc, ◌+◌, ◌*◌, ◌<◌, ◌≤◌, ◌^◌}
 use native.Mathlib.Omega.{arith}
@@ -226,11 +226,7 @@ module _ (s : Session) (t : Tally) (eq : t ≡ tally_of s) (d : ℕ) where
             few = rw width_is at below
 
             free : crowded ≡ false
-            free = let q = counters_are in let k = few in rw (lt-leb s.sheet.width.counters (length s.work.counters) (omega arith)) (and_none (ltb 1 (length (members s.work d))))
-              where
-                and_none : (x : Bool) → (x && false) ≡ false
-                and_none true = refl
-                and_none false = refl
+            free = let q = counters_are in let k = few in rw (lt-leb s.sheet.width.counters (length s.work.counters) (omega arith)) (and-false (ltb 1 (length (members s.work d))))
 
             accept : accepted s (core d) ≡ true
             accept = core_takes s d (record {

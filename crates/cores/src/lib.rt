@@ -14,7 +14,7 @@ ghost use Rattle.rooms.specs.Held.{HeldDerived, HeldCounters, HeldWeights};
 
 use clauses::{FamilyRooms, FamilyRoomsMut};
 use paper::{Answer, Outcome, Reason, Tally};
-use weights::WeightRooms;
+use weights::WeightRoomsMut;
 
 // The tally after a core. A reached session's bound has room for the weight.
 fn relaxed(tally: Tally, counters: u32, weight: u32) -> Outcome
@@ -46,7 +46,7 @@ pub fn core(
     tally: Tally,
     derived: FamilyRooms,
     counters: &mut FamilyRoomsMut,
-    weights: &mut WeightRooms,
+    weights: &mut WeightRoomsMut,
     number: u32,
 ) -> Outcome
     ensures same { SameFamily counters.old counters.new × SameWeights weights.old weights.new }
@@ -66,7 +66,7 @@ pub fn core(
     }
     let width = openings::width_of(tally);
     let members = derived.clause(tally.derived, number);
-    let Some(weight) = weights.least(width, members) else {
+    let Some(weight) = weights.view().least(width, members) else {
         return openings::refuse(tally, Reason::NoCore);
     };
     let count = tally.counters;
@@ -84,6 +84,6 @@ pub fn core(
         return openings::refuse(tally, Reason::NoRoom);
     }
     weights.lower(width, members, weight);
-    weights.raise(width, count, inputs, weight);
+    weights::raise(weights.outputs, width, count, inputs, weight);
     relaxed(tally, count + 1, weight)
 }

@@ -1,8 +1,8 @@
 -- A counter is its halves under a node, so a clause of it is the node's own, the left part's or the right part's.
 use mathlib.Core.Path.{◌≡◌, refl, ap, ◌∙◌}
-use mathlib.Core.List.{List, [], ◌∷◌, map}
+use mathlib.Core.List.{[], ◌∷◌, map}
 use Prim.Native.Nat.{ℕ, zero, suc, ◌+◌, ◌-◌, ◌/◌, ◌%◌, ◌<◌, ◌≤◌}
-use native.Mathlib.Nat.{div-lt_iff_lt-mul, mod-lt, mul-le-mul}
+use native.Mathlib.Nat.{div-lt_iff_lt-mul, mod-lt}
 use native.Mathlib.Numerals.{add-one}
 use native.Mathlib.Omega.{arith}
 use lib.Dec.{ltb}
@@ -10,6 +10,7 @@ use lib.IntN.{pos}
 use lib.ListN.{length, take, drop, get_or, length-drop, length-map}
 use lib.Seq.{take_all, length-take-le}
 use borrow.Author.Tests.{lt-ltb, le-ltb}
+use Rattle.std.proofs.lemmas.List.{take-map, drop-map}
 use Rattle.paper.specs.Sizes.{narrow}
 use Rattle.paper.specs.Clauses.{Clause, variable, pick, from}
 use Rattle.paper.specs.Counters.{Tree, input, node, inputs, variables, clauses, variables_of, clauses_of}
@@ -19,16 +20,6 @@ use Rattle.paper.proofs.Trees.{halves, tree_inputs, by_inputs, variables_room, n
 use Rattle.counters.specs.Numbered.{counter_of}
 
 -- ── The parts ──
-
-map-take : {A B : Type 0} (f : A → B) (n : ℕ) (xs : List A) → take n (map f xs) ≡ map f (take n xs)
-map-take f zero xs = refl
-map-take f (suc n) [] = refl
-map-take f (suc n) (x ∷ xs) = ap (λ ys. f x ∷ ys) (map-take f n xs)
-
-map-drop : {A B : Type 0} (f : A → B) (n : ℕ) (xs : List A) → drop n (map f xs) ≡ map f (drop n xs)
-map-drop f zero xs = refl
-map-drop f (suc n) [] = refl
-map-drop f (suc n) (x ∷ xs) = map-drop f n xs
 
 abbrev pub half : Clause → ℕ
 half xs = length xs / 2
@@ -83,14 +74,11 @@ sum_run l r s t sum (suc a) zero h k = rw (output_run l s a h)
 sum_run l r s t sum (suc a) (suc b) h k = rw (output_run l s a h, output_run r t b k)
 
 -- The counts of left and right outputs that a node's clause names.
-pub within : (p q i : ℕ) → i < own_clauses p q → ((i + 1) / (q + 1) ≤ p) × ((i + 1) % (q + 1) ≤ q)
+within : (p q i : ℕ) → i < own_clauses p q → ((i + 1) / (q + 1) ≤ p) × ((i + 1) % (q + 1) ≤ q)
 within p q i h =
     let d : (i + 1) / (q + 1) < p + 1 = (div-lt_iff_lt-mul {k = q + 1} {x = i + 1} {y = p + 1} (omega arith)).1 (omega arith) in
     let m : (i + 1) % (q + 1) < q + 1 = mod-lt (i + 1) (omega arith) in
     (omega arith, omega arith)
-
-pub own_small : (p q : ℕ) → p ≤ 64 → q ≤ 64 → own_clauses p q ≤ 4224
-own_small p q h k = omega (arith, mul-le-mul h k)
 
 -- ── The clauses ──
 
@@ -123,7 +111,7 @@ module _ (xs : Clause) (two : 1 < length xs) where
   unfolding counter_of
   split =
       halves (map variable xs) (rw (length-map xs variable) two)
-      ∙ rw (length-map xs variable, map-take variable (half xs) xs, map-drop variable (half xs) xs, to_end xs)
+      ∙ rw (length-map xs variable, take-map variable (half xs) xs, drop-map variable (half xs) xs, to_end xs)
 
   pub first_many : (start : ℕ) → start ≡ output (counter_of xs) start 0
   first_many start = rw split (omega arith)

@@ -1,10 +1,10 @@
 -- The search for a clause by the halves, over the numbers of its parts alone.
 use mathlib.Core.Path.{◌≡◌, sym, ap, ◌∙◌}
-use mathlib.Core.List.{List, [], ◌∷◌}
-use Prim.Native.Nat.{ℕ, zero, suc, ◌+◌, ◌-◌, ◌/◌, ◌<◌, ◌≤◌}
+use Prim.Native.Nat.{ℕ, ◌+◌, ◌-◌, ◌/◌, ◌<◌, ◌≤◌}
 use native.Mathlib.Omega.{arith}
 use lib.ListN.{length, take, drop, length-drop}
-use lib.Seq.{length-take-le, take-nil, take-length, take-take, drop-drop}
+use lib.Seq.{length-take-le, take-length, take-take, drop-drop}
+use Rattle.std.proofs.lemmas.List.{drop-take}
 use Rattle.paper.specs.Clauses.{Clause}
 use Rattle.paper.specs.Counters.{own_clauses, clause_at, variables_of, clauses_of}
 use Rattle.paper.proofs.Trees.{table_rule}
@@ -19,13 +19,6 @@ part from size xs = take size (drop from xs)
 
 part_long : (from size : ℕ) (xs : Clause) → from + size ≤ length xs → length (part from size xs) ≡ size
 part_long from size xs h = length-take-le size (drop from xs) (omega (arith, length-drop from xs))
-
-drop-take : {A : Type 0} (n m : ℕ) (xs : List A) → drop n (take (n + m) xs) ≡ take m (drop n xs)
-drop-take zero m xs = let e : 0 + m ≡ m = omega arith in rw e
-drop-take (suc n) m [] = ap (drop (suc n)) (take-nil (suc n + m)) ∙ sym (take-nil m)
-drop-take (suc n) m (x ∷ xs) =
-    let e : suc n + m ≡ suc (n + m) = omega arith in
-    rw e (drop-take n m xs)
 
 -- ── One step down ──
 

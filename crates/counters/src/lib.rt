@@ -2,7 +2,7 @@
 // starts at 1,000,000 at most and has at most 384 variables, so that each of its variables is below 1,000,384.
 #![tactic(auto)]
 
-ghost use Rattle.std.specs.Prelude.{◌≡◌, [], ◌+◌, ◌-◌, ◌/◌, ◌<◌, ◌≤◌, pos, negsuc, length};
+ghost use Rattle.std.specs.Prelude.{◌≡◌, ◌+◌, ◌-◌, ◌/◌, ◌<◌, ◌≤◌, negsuc, length};
 ghost use Rattle.paper.specs.Clauses.{Clause};
 ghost use Rattle.paper.specs.Counters.{output, unless, sum_clause, own_clauses, clause_at, variables_of};
 ghost use Rattle.counters.specs.Numbered.{counter_of, numbered, Holds, Found};
@@ -17,14 +17,11 @@ pub struct Three {
     pub length: usize,
 }
 
-fn no_clause() -> Three
-    ensures { Holds result [] }
-{
-    Three {
-        literals: [0; 3],
-        length: 0,
-    }
-}
+// What a number that no clause has gets.
+const NO_CLAUSE: Three = Three {
+    literals: [0; 3],
+    length: 0,
+};
 
 // An input's variable can be 2147483648, which only its negative literal has.
 fn negative_literal(variable: usize) -> i32
@@ -154,7 +151,7 @@ fn clause_by_halves(tables: Tables<'_>, inputs: &[i32], start: usize, number: us
     node_by_halves(tables, &mut node);
     let part = &inputs[node.from..node.from + node.size];
     if part.len() < 2 {
-        return no_clause();
+        return NO_CLAUSE;
     }
     node_clause(tables, part, node.start, node.number)
 }
@@ -165,7 +162,7 @@ pub fn counter_clause(inputs: &[i32], start: usize, number: usize) -> Three
     ensures { Holds result (numbered inputs.now start number) }
 {
     if 64 < inputs.len() || 1000000 < start {
-        return no_clause();
+        return NO_CLAUSE;
     }
     let variables = tables::VARIABLES;
     let clauses = tables::CLAUSES;

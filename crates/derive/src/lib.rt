@@ -18,7 +18,7 @@ ghost use Rattle.derive.specs.Derivations.{hinted, misfit_in, assumed_in, place_
 
 use hints::Clauses;
 use paper::Reading;
-use values::ValueRooms;
+use values::ValueRoomsMut;
 
 pub const MOST_HINTS: usize = 256;
 
@@ -35,7 +35,7 @@ struct Followed {
 
 // The hints in their order. What they force goes on the trail.
 fn follow_hints(
-    values: &mut ValueRooms,
+    values: &mut ValueRoomsMut,
     clauses: &Clauses,
     hints: &[u64],
     trail: &mut [i32],
@@ -55,7 +55,7 @@ fn follow_hints(
     for (i, &hint) in hints.iter().enumerate() {
         let place = i + 1;
         let assigned = count + i;
-        match hints::read_hint(values, clauses, hint) {
+        match hints::read_hint(values.view(), clauses, hint) {
             Reading::Forces(literal) => {
                 marks::assign_next(values, trail, assigned, literal, true);
             }
@@ -80,7 +80,7 @@ fn follow_hints(
 }
 
 // Takes the clause's literals as false, where they have no value yet, and says how many that are.
-fn assume(values: &mut ValueRooms, clause: &[i32], trail: &mut [i32]) -> usize
+fn assume(values: &mut ValueRoomsMut, clause: &[i32], trail: &mut [i32]) -> usize
     requires { length clause.now ≤ length trail.old }
     ensures same { SameValues values.old values.new }
     ensures within { result ≤ length clause.now }
@@ -91,7 +91,7 @@ fn assume(values: &mut ValueRooms, clause: &[i32], trail: &mut [i32]) -> usize
 {
     let mut count: usize = 0;
     for &literal in clause {
-        if values.value(literal).is_none() {
+        if values.view().value(literal).is_none() {
             marks::assign_next(values, trail, count, literal, false);
             count += 1;
         }
@@ -102,7 +102,7 @@ fn assume(values: &mut ValueRooms, clause: &[i32], trail: &mut [i32]) -> usize
 // None where the hints show the clause, else the place from 1 of the first that does not fit. The trail has a place for every literal
 // and every hint that the sizes allow: more of them, which 16 or 19 has refused, are not followed.
 pub fn misfit_of(
-    values: &mut ValueRooms,
+    values: &mut ValueRoomsMut,
     clauses: &Clauses,
     clause: &[i32],
     hints: &[u64],

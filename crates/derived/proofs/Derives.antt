@@ -30,7 +30,8 @@ use Rattle.clauses.proofs.Lists.{unlike}
 use Rattle.clauses.proofs.Lowest.{admission_plain, none_applies}
 use Rattle.derive.specs.Derivations.{hinted, place_of}
 use Rattle.rooms.specs.Held.{HeldDerived, Zeros}
-use Rattle.hints.specs.Hinted.{HeldClauses}
+use Rattle.hints.specs.Hinted.{Rooms, HeldClauses}
+use Rattle.names.specs.Names.{Knows}
 use Rattle.rooms.proofs.Outcomes.{Refuses, part_refuses, full_refuses, room_accepts}
 use Rattle.rooms.proofs.Families.{none_left, was_full, was_roomy, still_held, more_held}
 
@@ -64,6 +65,11 @@ rest_decides (x ∷ t) rest plain e = go x.applies e (rest_decides t rest plain.
     go true e ih = absurd (omega (arith, plain.1))
     go false e ih = ih e
 
+-- What the steps of hints hold, the names are known in.
+pub known_in : (s : Session) → Reached s → {t : Tally} → t ≡ tally_of s → {rooms : Rooms} → HeldClauses rooms s
+    → Knows t rooms.counter_ends s
+known_in s r eq {rooms} H = record { reached = r; tally_is = eq; inputs = rooms.inputs; counters = H.counters }
+
 pub zeros_wide : (s : Session) → Reached s → (values : List ℕ) → Zeros narrow values → Zeros s.sheet.width values
 zeros_wide s r values z = rw (reached_narrow s r) z
 
@@ -79,32 +85,6 @@ some_place (Some place) counted e zero = counted (ap Some zero)
 pub no_place : (misfit : Option ℕ) → false ≡ is_some misfit → place_of misfit ≡ 0
 no_place None e = refl
 no_place (Some place) e = unlike e
-
--- The derived clauses seen through a view that has their rooms.
-pub held_seen : (s : Session) {rules : List ℤ} {rule_ends : List ℕ} {wishes : List ℤ} {wish_ends : List ℕ} {inputs : List ℤ}
-    {counter_ends : List ℕ} {derived : List ℤ} {derived_ends : List ℕ} (seen : List ℤ) (seen_ends : List ℕ) → seen ≡ derived
-    → seen_ends ≡ derived_ends
-    → HeldClauses (record {
-      rules = rules;
-      rule_ends = rule_ends;
-      wishes = wishes;
-      wish_ends = wish_ends;
-      inputs = inputs;
-      counter_ends = counter_ends;
-      derived = derived;
-      derived_ends = derived_ends;
-    }) s
-    → HeldClauses (record {
-      rules = rules;
-      rule_ends = rule_ends;
-      wishes = wishes;
-      wish_ends = wish_ends;
-      inputs = inputs;
-      counter_ends = counter_ends;
-      derived = seen;
-      derived_ends = seen_ends;
-    }) s
-held_seen s seen seen_ends e f H = rw (e, f) H
 
 pub short_enough : {u v : Width} {n : ℕ} → u ≡ v → n ≤ v.literals → n ≤ u.literals
 short_enough e h = rw e h

@@ -12,38 +12,27 @@ ghost use Rattle.clauses.specs.Lent.{SameFamily};
 ghost use Rattle.values.specs.Lent.{bytes, KeptValues};
 ghost use Rattle.rooms.specs.Held.{HeldDerived, Zeros};
 ghost use Rattle.hints.specs.Hinted.{HeldClauses};
+ghost use Rattle.hints.specs.Lent.{given_with};
 
-use clauses::{FamilyRooms, FamilyRoomsMut};
-use hints::Clauses;
-use paper::{Answer, Outcome, Reason, Tally};
-use values::ValueRooms;
-
-const MOST_DERIVED: u32 = 4096;
+use clauses::FamilyRoomsMut;
+use hints::{Clauses, Given};
+use names::Known;
+use paper::{Answer, MOST_DERIVED, Outcome, Reason, Tally};
+use values::ValueRoomsMut;
 
 // A hint is the number of its 8 bytes.
 pub fn derive(
     tally: Tally,
-    rules: FamilyRooms,
-    wishes: FamilyRooms,
-    counters: FamilyRooms,
+    given: Given,
     derived: &mut FamilyRoomsMut,
-    values: &mut ValueRooms,
+    values: &mut ValueRoomsMut,
     clause: &[i32],
     hints: &[u64],
 ) -> Outcome
     ensures same { SameFamily derived.old derived.new }
     ensures kept { KeptValues values.old values.new }
     ensures stepped { (s : Session) → Reached s → tally ≡ tally_of s
-        → HeldClauses (record {
-          rules = rules.entry.literals.now;
-          rule_ends = rules.entry.ends.now;
-          wishes = wishes.entry.literals.now;
-          wish_ends = wishes.entry.ends.now;
-          inputs = counters.entry.literals.now;
-          counter_ends = counters.entry.ends.now;
-          derived = derived.old.literals.now;
-          derived_ends = derived.old.ends.now;
-        }) s
+        → HeldClauses (given_with given.entry derived.old.literals.now derived.old.ends.now) s
         → Zeros narrow (bytes values.old)
         → (result ≡ outcome s (deriveStep clause.now (map hint_in hints.now)))
         × HeldDerived derived.new.literals.now derived.new.ends.now
@@ -53,16 +42,19 @@ pub fn derive(
         return openings::refuse(tally, Reason::OutOfTurn);
     }
     let width = openings::width_of(tally);
-    if let Err(reason) = names::named_refusal(width, tally, counters.ends, clause, values) {
+    let known = Known {
+        width,
+        tally,
+        counter_ends: given.counters.ends,
+    };
+    if let Err(reason) = known.refusal(clause, values) {
         return openings::refuse(tally, reason);
     }
-    if derive::MOST_HINTS < hints.len() || !names::all_hints_named(tally, counters.ends, hints) {
+    if derive::MOST_HINTS < hints.len() || !known.all_hints_named(hints) {
         return openings::refuse(tally, Reason::StrangeHint);
     }
     let clauses = Clauses {
-        rules,
-        wishes,
-        counters,
+        given,
         derived: derived.view(),
         width,
         tally,

@@ -34,7 +34,7 @@ use Rattle.headers.specs.declared.Three.{Three}
 use Rattle.headers.specs.Headings.{is_number, three_form, three_of, heading, heading_of}
 use Rattle.std.proofs.lemmas.Option.{cond_some}
 use Rattle.numerals.proofs.Choices.{none_picked}
-use Rattle.headers.proofs.Numbers.{and_none}
+use Rattle.std.proofs.lemmas.Bool.{and_left, and_right}
 
 -- ── A word that some bytes begin with ──
 
@@ -73,23 +73,14 @@ form_is text = refl
 pub heading_none : (text : List ℕ) → header_form text ≡ false → None ≡ heading_of text
 heading_none text e = rw e
 
-first_fails : (a b : Bool) → a ≡ false → (a && b) ≡ false
-first_fails a b e = rw e
-
-second_fails : (a b c : Bool) → b ≡ false → (a && (b && c)) ≡ false
-second_fails a b c e = rw (e, and_none a)
-
-third_fails : (a b c : Bool) → c ≡ false → (a && (b && c)) ≡ false
-third_fails a b c e = rw (e, and_none b, and_none a)
-
 start_fails : (text : List ℕ) → start_test text ≡ false → None ≡ heading_of text
-start_fails text e = heading_none text (form_is text ∙ first_fails (start_test text) (blank_test text && numbers_test text) e)
+start_fails text e = heading_none text (form_is text ∙ and_left _ _ e)
 
 blank_fails : (text : List ℕ) → blank_test text ≡ false → None ≡ heading_of text
-blank_fails text e = heading_none text (form_is text ∙ second_fails (start_test text) (blank_test text) (numbers_test text) e)
+blank_fails text e = heading_none text (form_is text ∙ and_right (start_test text) _ (and_left _ _ e))
 
 numbers_fail : (text : List ℕ) → numbers_test text ≡ false → None ≡ heading_of text
-numbers_fail text e = heading_none text (form_is text ∙ third_fails (start_test text) (blank_test text) (numbers_test text) e)
+numbers_fail text e = heading_none text (form_is text ∙ and_right (start_test text) _ (and_right (blank_test text) _ e))
 
 pub heading_some : (text : List ℕ) → header_form text ≡ true → Some (heading text) ≡ heading_of text
 heading_some text e = rw e

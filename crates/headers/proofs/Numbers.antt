@@ -1,6 +1,6 @@
 -- Three numbers taken from a line one after the other, and no word more.
-use mathlib.Core.Path.{◌≡◌, refl, sym, ap, ◌∙◌}
-use mathlib.Core.Bool.{Bool, true, false, ◌&&◌}
+use mathlib.Core.Path.{◌≡◌, sym, ap, ◌∙◌}
+use mathlib.Core.Bool.{false}
 use mathlib.Core.List.{List}
 use Prim.Native.Nat.{ℕ, ◌-◌}
 use lib.ListN.{take, drop}
@@ -11,10 +11,6 @@ use Rattle.paper.specs.Texts.{Word, value, most_number}
 use Rattle.words.specs.Words.{words_at, NextWord}
 use Rattle.numerals.specs.Numerals.{numeral_of}
 use Rattle.headers.specs.Headings.{is_number, number_first, Leads}
-
-pub and_none : (a : Bool) → (a && false) ≡ false
-and_none true = refl
-and_none false = refl
 
 -- ── One number ──
 

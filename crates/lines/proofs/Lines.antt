@@ -15,9 +15,9 @@ use Rattle.lines.specs.Lines.{line_room, word, Written}
 
 -- ── Digits ──
 
--- One digit, or more.
-by_size : {A : Type 0} (n : ℕ) → (n < 10 → A) → (10 ≤ n → A) → A
-by_size {A} n one more = go (ltb n 10) (λ e. one (ltb-true n 10 e)) (λ e. more (ltb-false n 10 e))
+-- A number is below another, or it is not.
+pub by_place : {A : Type 0} (n m : ℕ) → (n < m → A) → (m ≤ n → A) → A
+by_place {A} n m below past = go (ltb n m) (λ e. below (ltb-true n m e)) (λ e. past (ltb-false n m e))
   where
     go : (b : Bool) → (b ≡ true → A) → (b ≡ false → A) → A
     go true f g = f refl
@@ -29,7 +29,7 @@ unfolding digits
 digits_fuel zero g n h k = absurd (omega arith)
 digits_fuel (suc f) zero n h k = absurd (omega arith)
 digits_fuel (suc f) (suc g) n h k =
-    by_size n (λ one. rw (lt-ltb n 10 one))
+    by_place n 10 (λ one. rw (lt-ltb n 10 one))
     (λ more. rw (le-ltb n 10 more, digits_fuel f g (n / 10) (omega arith) (omega arith)))
 
 pub decimal_one : (n : ℕ) → n < 10 → decimal n ≡ (48 + n) ∷ []
@@ -46,7 +46,7 @@ decimal-length n h = rw (decimal_more n h, length-append)
 pub decimal_short : (k n : ℕ) → n < 10 ^ suc k → length (decimal n) ≤ suc k
 decimal_short zero n h = rw (decimal_one n (omega arith)) (omega arith)
 decimal_short (suc k) n h =
-    by_size n (λ one. rw (decimal_one n one) (omega arith))
+    by_place n 10 (λ one. rw (decimal_one n one) (omega arith))
     (λ more.
     let h' : n < 10 ^ suc k * 10 = rw (← pow-suc) h in
     let rest = decimal_short k (n / 10) ((div-lt_iff_lt-mul (omega arith)).1 h') in

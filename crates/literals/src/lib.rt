@@ -1,7 +1,6 @@
 // The literals of a clause in a text, from behind its weight to the 0 that ends it. The work is in proportion to the bytes passed.
 #![tactic(auto)]
 
-ghost use Rattle.std.specs.Prelude.{◌≡◌, set};
 ghost use Rattle.literals.specs.Reading.{Reads, number_of, stop_of};
 
 use paper::Reason;
@@ -24,23 +23,14 @@ pub struct Fault {
     pub stop: Stop,
 }
 
-// More literals than the room has are counted by the caller, and not kept. An index test, since after a slice's `get_mut` a proof knows
-// only the length.
-fn keep(room: &mut [i32], count: usize, literal: i32)
-    ensures { room.new ≡ set room.old count literal }
-{
-    if count < room.len() {
-        room[count] = literal;
-    }
-}
-
-// Past the text's end there are no words.
+// Past the text's end there are no words. More literals than the room has are counted, and not kept.
 pub fn read_literals(text: &[u8], at: usize, room: &mut [i32]) -> Result<Stop, Fault>
     ensures { Reads text.now at room.old (number_of result) (stop_of result).position (stop_of result).count
         (stop_of result).next room.new }
 {
     let mut place = at;
     let mut count: usize = 0;
+    // No `for`: `next_word` tells where the next word begins.
     while let Some(found) = words::next_word(text, place) {
         let stop = Stop {
             position: found.start,
@@ -56,7 +46,7 @@ pub fn read_literals(text: &[u8], at: usize, room: &mut [i32]) -> Result<Stop, F
         if literal == 0 {
             return Ok(stop);
         }
-        keep(room, count, literal);
+        slices::store(room, count, literal);
         count += 1;
         place = found.end;
     }

@@ -14,11 +14,12 @@ ghost use Rattle.values.specs.Lent.{bytes, SameValues, KeptValues};
 ghost use Rattle.marks.specs.Marks.{fresh, unmarked, Marked};
 
 use paper::Reason;
-use values::ValueRooms;
+use values::ValueRoomsMut;
 
 // Assigns a literal and puts it on the trail, so that it is taken back with the others there; a trail without the place is left alone.
+// No struct of trail and count: what fills a trail answers the count, and a clause would have to name both fields all the same.
 pub fn assign_next(
-    values: &mut ValueRooms,
+    values: &mut ValueRoomsMut,
     trail: &mut [i32],
     count: usize,
     literal: i32,
@@ -34,21 +35,18 @@ pub fn assign_next(
     ensures noted { trail.new ≡ set trail.old count literal }
 {
     values.assign(literal, truth);
-    // An index test, since after a slice's `get_mut` a proof knows only the length.
-    if count < trail.len() {
-        trail[count] = literal;
-    }
+    slices::store(trail, count, literal);
 }
 
 // Marks the literals' variables up to one that is marked already, and says how many literals that were.
-fn mark(clause: &[i32], values: &mut ValueRooms) -> usize
+fn mark(clause: &[i32], values: &mut ValueRoomsMut) -> usize
     ensures same { SameValues values.old values.new }
     ensures marked { Marked (bytes values.old) clause.now result
         (bytes values.new) }
 {
     for (count, literal) in clause.iter().enumerate() {
         let variable = variables::variable_of(*literal);
-        if values.at(variable) != 0 {
+        if values.view().at(variable) != 0 {
             return count;
         }
         values.put(variable, 1);
@@ -57,7 +55,7 @@ fn mark(clause: &[i32], values: &mut ValueRooms) -> usize
 }
 
 // The last mark first: so each is taken away where it was set.
-fn unmark(clause: &[i32], values: &mut ValueRooms)
+fn unmark(clause: &[i32], values: &mut ValueRoomsMut)
     ensures same { SameValues values.old values.new }
     ensures unmarked { bytes values.new
         ≡ unmarked (bytes values.old) clause.now (length clause.now) }
@@ -68,7 +66,7 @@ fn unmark(clause: &[i32], values: &mut ValueRooms)
 }
 
 // Takes back the first so many literals of a trail, the last of them first; nothing where the trail has fewer.
-pub fn take_back(trail: &[i32], count: usize, values: &mut ValueRooms)
+pub fn take_back(trail: &[i32], count: usize, values: &mut ValueRoomsMut)
     ensures same { SameValues values.old values.new }
     ensures within { count ≤ length trail.now → bytes values.new
         ≡ unmarked (bytes values.old) trail.now count }
@@ -82,7 +80,7 @@ pub fn take_back(trail: &[i32], count: usize, values: &mut ValueRooms)
 
 // No variable stands twice, as far as rooms of zeros with a place for each variable can tell. The rooms are left as they were,
 // whatever they held.
-pub fn distinct(clause: &[i32], values: &mut ValueRooms) -> bool
+pub fn distinct(clause: &[i32], values: &mut ValueRoomsMut) -> bool
     ensures kept { KeptValues values.old values.new }
     ensures answer { result ≡ fresh (bytes values.old) clause.now }
 {
@@ -96,7 +94,7 @@ pub fn problem_refusal(
     most: usize,
     variables: u32,
     clause: &[i32],
-    values: &mut ValueRooms,
+    values: &mut ValueRoomsMut,
 ) -> Result<(), Reason>
     ensures kept { KeptValues values.old values.new }
     ensures answer { (size : ℕ) (u : Width) → bytes values.old ≡ replicate size 0 → variables < size

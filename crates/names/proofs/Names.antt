@@ -10,6 +10,7 @@ use lib.Dec.{ltb}
 use lib.IntN.{ℤ, pos}
 use lib.ListN.{length, drop, get_or, length-map, get_or-map}
 use lib.Seq.{drop-length}
+use Rattle.std.proofs.lemmas.Bool.Decides.{nat_tests}
 use borrow.Author.Tests.{ltb-true, ltb-false, lt-ltb, le-ltb, le-leb, lt-leb}
 use Rattle.paper.specs.Sizes.{first_wish, wish_variable, first_counter}
 use Rattle.paper.specs.declared.Width.{Width}
@@ -30,12 +31,9 @@ use Rattle.marks.proofs.Marks.{fresh_zeros}
 use Rattle.rooms.specs.Held.{Zeros, inputs_of}
 use Rattle.names.specs.Names.{in_counter}
 
-same_test : (a b c d : ℕ) → (a < b → c < d) → (b ≤ a → d ≤ c) → ltb a b ≡ ltb c d
-same_test a b c d f g = go (ltb a b) refl
-  where
-    go : (x : Bool) → ltb a b ≡ x → x ≡ ltb c d
-    go true e = sym (lt-ltb c d (f (ltb-true a b e)))
-    go false e = sym (le-ltb c d (g (ltb-false a b e)))
+-- A place that stands so far past a start.
+same_test : (start n v : ℕ) → start ≤ v → ltb v (start + n) ≡ ltb (v - start) n
+same_test start n v h = grind (arith, nat_tests)
 
 -- ── Counter variables ──
 
@@ -63,9 +61,7 @@ in_counters_is u ft some (x ∷ xs) start v o h =
           le-leb start v h,
           before_counters u.stride xs (start + u.stride) v (omega arith),
         )
-        (or-false _
-        ∙ same_test v (start + variables (tree_of x.inputs)) (v - start) (variables (tree_of x.inputs))
-        (λ j. omega arith) (λ j. omega arith))
+        (or-false _ ∙ same_test start (variables (tree_of x.inputs)) v h)
     go false e ih =
         let k : u.stride ≤ v - start = ltb-false _ _ e in
         let back : v - (start + u.stride) ≡ v - start - u.stride = omega arith in
@@ -99,9 +95,7 @@ module _ (s : Session) (r : Reached s) (l : ℤ) where
       → named_literal s.sheet s.work l ≡ ltb (variable l - first_wish) (length s.sheet.wishes)
   wish_name h k =
       rw (not_problem h, le-leb first_wish (variable l) h, no_counter_lem k)
-      (or-false _
-      ∙ same_test (variable l) (wish_variable (length s.sheet.wishes)) (variable l - first_wish) (length s.sheet.wishes)
-      (λ j. omega arith) (λ j. omega arith))
+      (or-false _ ∙ same_test first_wish (length s.sheet.wishes) (variable l) h)
 
   pub counter_name : first_counter ≤ variable l
       → named_literal s.sheet s.work l ≡ in_counter s.sheet.width s.work.counters (variable l - first_counter)

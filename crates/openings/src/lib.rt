@@ -9,7 +9,7 @@ ghost use Rattle.paper.specs.Reasons.{reason_number};
 ghost use Rattle.paper.specs.Steps.{opening, outcome};
 ghost use Rattle.paper.specs.Runs.{Reached};
 
-use paper::{Answer, Outcome, Reason, Tally, Width};
+use paper::{Answer, MOST_VARIABLES, Outcome, Reason, Tally, Width};
 
 // The width that a tally was opened with. There is one kind of opening so far.
 pub fn width_of(_tally: Tally) -> Width
@@ -22,7 +22,8 @@ pub fn width_of(_tally: Tally) -> Width
     }
 }
 
-// A refusal by its number, with the tally as it was.
+// A refusal by its number, with the tally as it was. Any number will do, and not only a
+// `Reason`'s: docs/PROMISES.md has it for every number.
 pub fn refused(tally: Tally, number: u32) -> Outcome
     ensures { result ≡ record { tally = tally; answer = Answer.Refused number } }
 {
@@ -45,7 +46,7 @@ pub fn open_session(tally: Tally, variables: u32) -> Outcome
     if 0 < tally.variables {
         return refuse(tally, Reason::OutOfTurn);
     }
-    if variables < 1 || 2000 < variables {
+    if variables < 1 || MOST_VARIABLES < variables {
         return refuse(tally, Reason::WrongVariables);
     }
     Outcome {

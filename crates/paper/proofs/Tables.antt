@@ -1,6 +1,6 @@
 -- How a step's table of refusals decides: the answer and the session after it.
 use mathlib.Core.Path.{◌≡◌, refl, ◌∙◌, ap}
-use mathlib.Core.Bool.{Bool, true, false, not, ◌&&◌}
+use mathlib.Core.Bool.{Bool, true, false, not, and-false}
 use mathlib.Core.List.{List, [], ◌∷◌, ◌++◌}
 use Prim.Native.Nat.{ℕ, ◌≤◌}
 use native.Mathlib.Omega.{arith}
@@ -28,11 +28,7 @@ answer_first (x ∷ above) below r other e f =
 
 pub not_clear : (above below : List Refusal) (r : Refusal) → r.applies ≡ true → clear (above ++ (r ∷ below)) ≡ false
 not_clear [] below r f = rw f
-not_clear (x ∷ above) below r f = rw (not_clear above below r f) (and_none (not x.applies))
-  where
-    and_none : (b : Bool) → (b && false) ≡ false
-    and_none true = refl
-    and_none false = refl
+not_clear (x ∷ above) below r f = rw (not_clear above below r f) (and-false (not x.applies))
 
 pub answer_accepted : (s : Session) (m : Step) → accepted s m ≡ true → answer s m ≡ reply s m
 answer_accepted s m e = answer_clear (refusals s m) (reply s m) e

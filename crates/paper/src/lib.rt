@@ -11,6 +11,18 @@ pub const FIRST_WISH: u32 = 2001;
 // Variable 0 of counter 0; the others follow it, a stride from one counter to the next.
 pub const FIRST_COUNTER: u32 = 4001;
 
+// The sizes that no kind of opening moves: the variables of a problem, its rules and its wishes, a wish's weight, and the derived
+// clauses.
+pub const MOST_VARIABLES: u32 = 2000;
+
+pub const MOST_RULES: u32 = 2048;
+
+pub const MOST_WISHES: u32 = 512;
+
+pub const MOST_WEIGHT: u32 = 1000000;
+
+pub const MOST_DERIVED: u32 = 4096;
+
 // The sizes that go with the kind of the opening record. They are one value, so that laws and code are stated over them.
 #[derive(Clone, Copy)]
 pub struct Width {
@@ -100,32 +112,25 @@ pub struct Numbers {
     pub second: u32,
 }
 
-impl Numbers {
-    fn give(number: u32, first: u32, second: u32) -> Numbers
-        ensures { result ≡ record { number = number; first = first; second = second } }
-    {
-        Numbers {
-            number,
-            first,
-            second,
-        }
-    }
-}
-
 impl From<Answer> for Numbers {
     ghost from_gives = { λ answer given. given ≡ numbers answer };
 
     fn from(answer: Answer) -> Numbers {
-        match answer {
-            Answer::Opened(variables) => Numbers::give(0, variables, 0),
-            Answer::Rule(number) => Numbers::give(0, number, 0),
-            Answer::Wish(number, variable) => Numbers::give(0, number, variable),
-            Answer::Derived(number, literals) => Numbers::give(0, number, literals),
-            Answer::Core(bound, weight) => Numbers::give(0, bound, weight),
-            Answer::Best(cost, bound) => Numbers::give(1, cost, bound),
-            Answer::Counted(cost, bound) => Numbers::give(0, cost, bound),
-            Answer::Broken(rule) => Numbers::give(24, rule, 0),
-            Answer::Refused(number) => Numbers::give(number, 0, 0),
+        let (number, first, second) = match answer {
+            Answer::Opened(variables) => (0, variables, 0),
+            Answer::Rule(number) => (0, number, 0),
+            Answer::Wish(number, variable) => (0, number, variable),
+            Answer::Derived(number, literals) => (0, number, literals),
+            Answer::Core(bound, weight) => (0, bound, weight),
+            Answer::Best(cost, bound) => (1, cost, bound),
+            Answer::Counted(cost, bound) => (0, cost, bound),
+            Answer::Broken(rule) => (24, rule, 0),
+            Answer::Refused(number) => (number, 0, 0),
+        };
+        Numbers {
+            number,
+            first,
+            second,
         }
     }
 }

@@ -123,6 +123,7 @@ impl Item for i32 {
     ghost padded = { padded_literal };
 }
 
+// A public function whose promise may not change (docs/LANDINGS.md names it): else `cast_signed` would stand in its place.
 pub fn of_bits(bits: u32) -> i32
     ensures { result ≡ signed bits }
 {

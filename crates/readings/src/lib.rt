@@ -1,18 +1,18 @@
 // A clause read under the values of two lent rooms: all false, one literal left to be true, one true already, or more left open.
 #![tactic(auto)]
 
-ghost use Rattle.std.specs.Prelude.{◌≡◌, true, false, List, [], ◌∷◌, ◌++◌, ℕ, drop};
+ghost use Rattle.std.specs.Prelude.{◌≡◌, true, false, List, [], ◌∷◌, ◌++◌, ℕ};
 ghost use Rattle.paper.specs.Derivation.{is};
 ghost use Rattle.values.specs.Values.{literal_in};
-ghost use Rattle.values.specs.Lent.{bytes};
+ghost use Rattle.values.specs.Lent.{bytes_in};
 ghost use Rattle.readings.specs.Readings.{read_in, both};
 
 use paper::Reading;
 use values::ValueRooms;
 
 // A reading with one literal more.
-pub fn read_one(reading: Reading, values: &ValueRooms, literal: i32) -> Reading
-    ensures { result ≡ both reading (read_in (bytes values.now) (literal ∷ [])) }
+pub fn read_one(reading: Reading, values: ValueRooms, literal: i32) -> Reading
+    ensures { result ≡ both reading (read_in (bytes_in values.entry) (literal ∷ [])) }
 {
     match values.value(literal) {
         Some(false) => reading,
@@ -26,8 +26,8 @@ pub fn read_one(reading: Reading, values: &ValueRooms, literal: i32) -> Reading
 }
 
 // A reading with a stretch of literals more.
-pub fn read_on(reading: Reading, values: &ValueRooms, part: &[i32]) -> Reading
-    ensures { result ≡ both reading (read_in (bytes values.now) part.now) }
+pub fn read_on(reading: Reading, values: ValueRooms, part: &[i32]) -> Reading
+    ensures { result ≡ both reading (read_in (bytes_in values.entry) part.now) }
 {
     let mut known = reading;
     for &literal in part {
@@ -47,8 +47,8 @@ fn told_false(low: &[u8], literal: i32) -> bool
 
 // The reading of a whole clause. A hint that fits has at most one literal that is not false, so it is enough to find that one;
 // only a clause with more of them is read again, literal by literal.
-pub fn read(values: &ValueRooms, part: &[i32]) -> Reading
-    ensures { result ≡ read_in (bytes values.now) part.now }
+pub fn read(values: ValueRooms, part: &[i32]) -> Reading
+    ensures { result ≡ read_in (bytes_in values.entry) part.now }
 {
     let mut other: Option<i32> = None;
     for &literal in part {

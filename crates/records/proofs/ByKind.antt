@@ -7,8 +7,7 @@ use native.Mathlib.Omega.{arith}
 use lib.ListN.{length, take, drop}
 use lib.Seq.{length-take-le}
 use borrow.Author.Tests.{eq-eqb, le-leb}
-use Rattle.paper.specs.declared.Tally.{Tally}
-use Rattle.paper.specs.Session.{Session, tally_of}
+use Rattle.paper.specs.Session.{Session}
 use Rattle.paper.specs.Steps.{Step, rule, opened}
 use Rattle.paper.specs.Runs.{Reached}
 use Rattle.paper.specs.Records.{Record, first, literals, hints_at}
@@ -28,7 +27,7 @@ part_long room count n e = sym (length-take-le count room (omega (arith, e)))
 abbrev of_kind : ℕ → List ℕ → Record
 of_kind kind payload = record { kind = kind; payload = payload }
 
-module _ (s : Session) (reached : Reached s) (t : Tally) (eq : t ≡ tally_of s) (payload : List ℕ)
+module _ (s : Session) (reached : Reached s) (payload : List ℕ)
     (begun : opened s ≡ true) where
   module _ (kind : ℕ) where
     timely : not (opened s) ≡ false
@@ -38,13 +37,13 @@ module _ (s : Session) (reached : Reached s) (t : Tally) (eq : t ≡ tally_of s)
       → Comes s (of_kind 2 payload) (rule (literals count payload))
   rule_comes h count e = rw e
       (comes_alike s (of_kind 2 payload) _ _ (first_rule s reached (length payload / 4) payload)
-      (well_formed s (of_kind 2 payload) t eq refl (timely 2) (eq-eqb (length payload % 4) 0 h)))
+      (well_formed s (of_kind 2 payload) refl (timely 2) (eq-eqb (length payload % 4) 0 h)))
 
   pub wish_comes : 4 ≤ length payload → length payload % 4 ≡ 0 → (count : ℕ) → count ≡ min (length payload / 4 - 1) 65
       → Comes s (of_kind 3 payload) (wish_in count payload)
   wish_comes l h count e = rw e
       (comes_alike s (of_kind 3 payload) _ _ (first_wish_lem s reached (first payload) (length payload / 4 - 1) (drop 4 payload))
-      (well_formed s (of_kind 3 payload) t eq refl (timely 3) (rw (le-leb 4 (length payload) l, eq-eqb (length payload % 4) 0 h))))
+      (well_formed s (of_kind 3 payload) refl (timely 3) (rw (le-leb 4 (length payload) l, eq-eqb (length payload % 4) 0 h))))
 
   pub derive_comes : 4 ≤ length payload → hints_at payload ≤ length payload → (length payload - hints_at payload) % 8 ≡ 0
       → (count many : ℕ) → count ≡ min (first payload) 65 → many ≡ min ((length payload - hints_at payload) / 8) 257
@@ -52,5 +51,5 @@ module _ (s : Session) (reached : Reached s) (t : Tally) (eq : t ≡ tally_of s)
   derive_comes l k h count many e f = rw (e, f)
       (comes_alike s (of_kind 4 payload) _ _
       (first_derive s reached (first payload) ((length payload - hints_at payload) / 8) (drop 4 payload) (drop (hints_at payload) payload))
-      (well_formed s (of_kind 4 payload) t eq refl (timely 4)
+      (well_formed s (of_kind 4 payload) refl (timely 4)
       (rw (le-leb 4 (length payload) l, le-leb (hints_at payload) (length payload) k, eq-eqb ((length payload - hints_at payload) % 8) 0 h))))

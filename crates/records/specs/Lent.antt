@@ -1,10 +1,10 @@
 -- The rooms of a session, lent as those of its families, its weights and its values.
 use Rattle.std.specs.Prelude.{List, ℕ}
 use Rattle.clauses.specs.declared.FamilyRoomsMut.{FamilyRoomsMut}
-use Rattle.weights.specs.declared.WeightRooms.{WeightRooms}
+use Rattle.weights.specs.declared.WeightRoomsMut.{WeightRoomsMut}
 use Rattle.rooms.specs.Held.{Rooms}
 
-abbrev pub lent : FamilyRoomsMut → FamilyRoomsMut → List ℕ → FamilyRoomsMut → FamilyRoomsMut → WeightRooms → Rooms
+abbrev pub lent : FamilyRoomsMut → FamilyRoomsMut → List ℕ → FamilyRoomsMut → FamilyRoomsMut → WeightRoomsMut → Rooms
 lent rules wishes wish_weights derived counters weights =
     record {
       rules = rules.literals.now;

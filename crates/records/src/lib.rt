@@ -4,7 +4,7 @@
 #![tactic(auto)]
 
 ghost use Rattle.std.specs.Prelude.{◌≡◌, true, List, ◌++◌, ℕ, length};
-ghost use Rattle.paper.specs.Sizes.{narrow, wish_room};
+ghost use Rattle.paper.specs.Sizes.{narrow};
 ghost use Rattle.paper.specs.Session.{Session, tally_of};
 ghost use Rattle.paper.specs.Steps.{rule, opened, next, outcome};
 ghost use Rattle.paper.specs.Runs.{Reached};
@@ -12,47 +12,25 @@ ghost use Rattle.paper.specs.Records.{literals as literals_in, record_answer, re
 ghost use Rattle.clauses.specs.Lent.{SameFamily};
 ghost use Rattle.values.specs.Lent.{bytes, KeptValues};
 ghost use Rattle.weights.specs.Lent.{SameWeights};
-ghost use Rattle.records.specs.Kinds.{Decodes, kind_number};
+ghost use Rattle.hints.specs.Hinted.{HeldClauses};
+ghost use Rattle.hints.specs.Lent.{given_with};
+ghost use Rattle.records.specs.Kinds.{kind_number};
 ghost use Rattle.records.specs.Lent.{lent};
 ghost use Rattle.records.specs.Parts.{wish_in, derive_in};
-ghost use Rattle.rooms.specs.Held.{Rooms as RoomLists, HeldIn, HeldRules, HeldWishes, HeldDerived, HeldCounters, HeldWeights, Zeros, wish_family};
+ghost use Rattle.rooms.specs.Held.{Rooms as RoomLists, HeldRules, HeldWishes, HeldDerived, HeldCounters, HeldWeights, Zeros};
 ghost use Rattle.rooms.specs.Kept.{Kept};
-ghost use Rattle.rooms.specs.Owned.{Keeps};
+ghost use Rattle.rooms.specs.Lent.{SameRooms, KeptWork, Keeps};
 
 use clauses::{FamilyRooms, FamilyRoomsMut};
+use hints::Given;
 use paper::{Answer, Outcome, Reason, Tally};
-use rooms::Rooms;
-use values::ValueRooms;
-use weights::WeightRooms;
+use rooms::RoomsMut;
+use values::ValueRoomsMut;
+use weights::WeightRoomsMut;
 
-// The kinds of records, by the numbers that stand in them.
-#[derive(Clone, Copy)]
-pub enum Kind {
-    Open = 1,
-    Rule = 2,
-    Wish = 3,
-    Derive = 4,
-    Core = 5,
-    Judge = 6,
-}
+mod kind;
 
-impl TryFrom<u32> for Kind {
-    type Error = Reason;
-
-    ghost try_from_gives = { Decodes };
-
-    fn try_from(kind: u32) -> Result<Kind, Reason> {
-        match kind {
-            1 => Ok(Kind::Open),
-            2 => Ok(Kind::Rule),
-            3 => Ok(Kind::Wish),
-            4 => Ok(Kind::Derive),
-            5 => Ok(Kind::Core),
-            6 => Ok(Kind::Judge),
-            _ => Err(Reason::UnknownKind),
-        }
-    }
-}
+pub use kind::Kind;
 
 fn open_record(tally: Tally, payload: &[u8]) -> Outcome
     ensures { (s : Session) → Reached s → tally ≡ tally_of s
@@ -71,7 +49,7 @@ fn open_record(tally: Tally, payload: &[u8]) -> Outcome
 fn rule_with(
     tally: Tally,
     rules: &mut FamilyRoomsMut,
-    values: &mut ValueRooms,
+    values: &mut ValueRoomsMut,
     payload: &[u8],
     clause: &mut [i32],
 ) -> Outcome
@@ -92,7 +70,7 @@ fn rule_with(
 fn rule_record(
     tally: Tally,
     rules: &mut FamilyRoomsMut,
-    values: &mut ValueRooms,
+    values: &mut ValueRoomsMut,
     payload: &[u8],
 ) -> Outcome
     ensures same { SameFamily rules.old rules.new }
@@ -118,7 +96,7 @@ fn wish_with(
     wishes: &mut FamilyRoomsMut,
     weights: &mut [u32],
     left: &mut [u32],
-    values: &mut ValueRooms,
+    values: &mut ValueRoomsMut,
     payload: &[u8],
     clause: &mut [i32],
 ) -> Outcome
@@ -142,7 +120,7 @@ fn wish_record(
     wishes: &mut FamilyRoomsMut,
     weights: &mut [u32],
     left: &mut [u32],
-    values: &mut ValueRooms,
+    values: &mut ValueRoomsMut,
     payload: &[u8],
 ) -> Outcome
     ensures same { SameFamily wishes.old wishes.new }
@@ -177,11 +155,9 @@ fn wish_record(
 // A derived clause with as many of the payload's literals and hints as the lent parts hold; the hints begin at `start`.
 fn derive_with(
     tally: Tally,
-    rules: FamilyRooms,
-    wishes: FamilyRooms,
-    counters: FamilyRooms,
+    given: Given,
     derived: &mut FamilyRoomsMut,
-    values: &mut ValueRooms,
+    values: &mut ValueRoomsMut,
     payload: &[u8],
     start: usize,
     clause: &mut [i32],
@@ -190,10 +166,7 @@ fn derive_with(
     ensures same { SameFamily derived.old derived.new }
     ensures kept { KeptValues values.old values.new }
     ensures stepped { (s : Session) → Reached s → tally ≡ tally_of s
-        → HeldRules rules.entry.literals.now rules.entry.ends.now s
-        → HeldIn wish_room wishes.entry.literals.now wishes.entry.ends.now (wish_family s.sheet.wishes)
-        → HeldCounters counters.entry.literals.now counters.entry.ends.now s
-        → HeldDerived derived.old.literals.now derived.old.ends.now s
+        → HeldClauses (given_with given.entry derived.old.literals.now derived.old.ends.now) s
         → Zeros narrow (bytes values.old)
         → (result ≡ outcome s (derive_in (length clause.old) (length hints.old) start payload.now))
         × HeldDerived derived.new.literals.now derived.new.ends.now
@@ -201,27 +174,20 @@ fn derive_with(
 {
     payload::copy_literals(payload, 4, clause);
     payload::copy_hints(payload, start, hints);
-    derived::derive(
-        tally, rules, wishes, counters, derived, values, clause, hints,
-    )
+    derived::derive(tally, given, derived, values, clause, hints)
 }
 
 fn derive_record(
     tally: Tally,
-    rules: FamilyRooms,
-    wishes: FamilyRooms,
-    counters: FamilyRooms,
+    given: Given,
     derived: &mut FamilyRoomsMut,
-    values: &mut ValueRooms,
+    values: &mut ValueRoomsMut,
     payload: &[u8],
 ) -> Outcome
     ensures same { SameFamily derived.old derived.new }
     ensures kept { KeptValues values.old values.new }
     ensures stepped { (s : Session) → Reached s → tally ≡ tally_of s → opened s ≡ true
-        → HeldRules rules.entry.literals.now rules.entry.ends.now s
-        → HeldIn wish_room wishes.entry.literals.now wishes.entry.ends.now (wish_family s.sheet.wishes)
-        → HeldCounters counters.entry.literals.now counters.entry.ends.now s
-        → HeldDerived derived.old.literals.now derived.old.ends.now s
+        → HeldClauses (given_with given.entry derived.old.literals.now derived.old.ends.now) s
         → Zeros narrow (bytes values.old)
         → (result ≡ record_outcome s (record { kind = 4; payload = payload.now }))
         × HeldDerived derived.new.literals.now derived.new.ends.now
@@ -244,9 +210,7 @@ fn derive_record(
     let hint_count = ((payload.len() - start) / 8).min(257);
     derive_with(
         tally,
-        rules,
-        wishes,
-        counters,
+        given,
         derived,
         values,
         payload,
@@ -260,7 +224,7 @@ fn core_record(
     tally: Tally,
     derived: FamilyRooms,
     counters: &mut FamilyRoomsMut,
-    weights: &mut WeightRooms,
+    weights: &mut WeightRoomsMut,
     payload: &[u8],
 ) -> Outcome
     ensures same { SameFamily counters.old counters.new × SameWeights weights.old weights.new }
@@ -311,7 +275,8 @@ fn answer_closed(tally: Tally, kind: Kind, payload: &[u8]) -> Outcome
     }
 }
 
-// A record of a known kind.
+// A record of a known kind. The rooms stand one by one: each arm lends some of them to read and some to write, and structs of `&mut`
+// inside another, made in the same function, are not tracked.
 fn answer_kind(
     tally: Tally,
     rules: &mut FamilyRoomsMut,
@@ -319,8 +284,8 @@ fn answer_kind(
     wish_weights: &mut [u32],
     derived: &mut FamilyRoomsMut,
     counters: &mut FamilyRoomsMut,
-    weights: &mut WeightRooms,
-    values: &mut ValueRooms,
+    weights: &mut WeightRoomsMut,
+    values: &mut ValueRoomsMut,
     kind: Kind,
     payload: &[u8],
 ) -> Outcome
@@ -341,15 +306,14 @@ fn answer_kind(
         Kind::Open => open_record(tally, payload),
         Kind::Rule => rule_record(tally, rules, values, payload),
         Kind::Wish => { wish_record(tally, wishes, wish_weights, weights.wishes, values, payload) }
-        Kind::Derive => derive_record(
-            tally,
-            rules.view(),
-            wishes.view(),
-            counters.view(),
-            derived,
-            values,
-            payload,
-        ),
+        Kind::Derive => {
+            let given = Given {
+                rules: rules.view(),
+                wishes: wishes.view(),
+                counters: counters.view(),
+            };
+            derive_record(tally, given, derived, values, payload)
+        }
         Kind::Core => core_record(tally, derived.view(), counters, weights, payload),
         Kind::Judge => Outcome {
             tally,
@@ -358,8 +322,9 @@ fn answer_kind(
     }
 }
 
-// One record. The rooms are arrays, so that no caller can lend one of a wrong size, and thirteen, because the C interface lends each by
-// a pointer of its own: they are put together here.
+// One record. The rooms are arrays, so that no caller can lend one of a wrong size. They stand one by one since they are put together
+// here, as the rooms of the families, of the weights and of the values: of several structs made from the fields of one `&mut RoomsMut`
+// the prover follows the first alone.
 pub fn answer_record<'a>(
     tally: Tally,
     rules: &'a mut [i32; 16384],
@@ -432,11 +397,11 @@ pub fn answer_record<'a>(
         literals: inputs,
         ends: counter_ends,
     };
-    let mut weights = WeightRooms {
+    let mut weights = WeightRoomsMut {
         wishes: left,
         outputs,
     };
-    let mut values = ValueRooms { low, high };
+    let mut values = ValueRoomsMut { low, high };
     answer_kind(
         tally,
         &mut rules,
@@ -451,28 +416,29 @@ pub fn answer_record<'a>(
     )
 }
 
-// One record, over rooms that the caller owns.
-pub fn answer(tally: Tally, rooms: &mut Rooms, kind: u32, payload: &[u8]) -> Outcome
-    ensures kept { (rooms.new.low ≡ rooms.old.low) × (rooms.new.high ≡ rooms.old.high) }
+// One record, over the rooms as one value.
+pub fn answer(tally: Tally, rooms: &mut RoomsMut, kind: u32, payload: &[u8]) -> Outcome
+    ensures same { SameRooms rooms.old rooms.new }
+    ensures kept { KeptWork rooms.old rooms.new }
     ensures answered { (s : Session) → Keeps tally rooms.old s
         → (result ≡ record_outcome s (record { kind = kind; payload = payload.now }))
         × Keeps result.tally rooms.new (record_next s (record { kind = kind; payload = payload.now })) }
 {
     answer_record(
         tally,
-        &mut rooms.rules,
-        &mut rooms.rule_ends,
-        &mut rooms.wishes,
-        &mut rooms.wish_ends,
-        &mut rooms.wish_weights,
-        &mut rooms.derived,
-        &mut rooms.derived_ends,
-        &mut rooms.inputs,
-        &mut rooms.counter_ends,
-        &mut rooms.left,
-        &mut rooms.outputs,
-        &mut rooms.low,
-        &mut rooms.high,
+        rooms.rules,
+        rooms.rule_ends,
+        rooms.wishes,
+        rooms.wish_ends,
+        rooms.wish_weights,
+        rooms.derived,
+        rooms.derived_ends,
+        rooms.inputs,
+        rooms.counter_ends,
+        rooms.left,
+        rooms.outputs,
+        rooms.low,
+        rooms.high,
         kind,
         payload,
     )

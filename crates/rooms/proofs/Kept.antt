@@ -7,7 +7,8 @@ use Rattle.paper.specs.declared.Tally.{Tally}
 use Rattle.paper.specs.Session.{fresh, tally_of}
 use Rattle.paper.proofs.Reach.{fresh_reached}
 use Rattle.rooms.specs.Kept.{Kept}
-use Rattle.rooms.specs.Owned.{Keeps, zeros}
+use Rattle.rooms.specs.Owned.{zeros}
+use Rattle.rooms.specs.Held.{Rooms}
 use Rattle.rooms.specs.declared.Rooms.{Rooms as Owned}
 use Rattle.rooms.proofs.Whole.{zeroed, fresh_held}
 
@@ -20,8 +21,25 @@ nothing_kept = record {
   zeros = record { size = 69537; are = replicate-append-replicate 4001 65536 0; enough = lit≤ tt };
 }
 
+-- The rooms that hold the session, of those that a caller owns.
+abbrev pub rooms_of : Owned → Rooms
+rooms_of rooms =
+    record {
+      rules = rooms.rules;
+      rule_ends = rooms.rule_ends;
+      wishes = rooms.wishes;
+      wish_ends = rooms.wish_ends;
+      wish_weights = rooms.wish_weights;
+      derived = rooms.derived;
+      derived_ends = rooms.derived_ends;
+      inputs = rooms.inputs;
+      counter_ends = rooms.counter_ends;
+      left = rooms.left;
+      outputs = rooms.outputs;
+    }
+
 -- The same of rooms that it owns.
-pub fresh_kept : (t : Tally) (rooms : Owned) → t ≡ tally_of fresh → rooms ≡ zeros → Keeps t rooms fresh
+pub fresh_kept : (t : Tally) (rooms : Owned) → t ≡ tally_of fresh → rooms ≡ zeros → Kept t (rooms_of rooms) (rooms.low ++ rooms.high) fresh
 fresh_kept t rooms counts blank = rw (counts, blank) nothing_kept
 
 -- The counts of a fresh session are zeros.

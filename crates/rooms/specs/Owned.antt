@@ -1,38 +1,9 @@
--- The rooms of a session as one value: what they hold, and the rooms of a fresh session.
-use Rattle.std.specs.Prelude.{List, ◌++◌, ℕ, pos, replicate}
-use Rattle.paper.specs.declared.Tally.{Tally}
-use Rattle.paper.specs.Session.{Session}
-use Rattle.rooms.specs.Held.{Rooms}
-use Rattle.rooms.specs.Kept.{Kept}
-use Rattle.rooms.specs.declared.Rooms.{Rooms as Owned}
-
--- The rooms that hold the session.
-abbrev pub rooms_in : Owned → Rooms
-rooms_in rooms =
-    record {
-      rules = rooms.rules;
-      rule_ends = rooms.rule_ends;
-      wishes = rooms.wishes;
-      wish_ends = rooms.wish_ends;
-      wish_weights = rooms.wish_weights;
-      derived = rooms.derived;
-      derived_ends = rooms.derived_ends;
-      inputs = rooms.inputs;
-      counter_ends = rooms.counter_ends;
-      left = rooms.left;
-      outputs = rooms.outputs;
-    }
-
--- The value rooms, end to end.
-abbrev pub values_in : Owned → List ℕ
-values_in rooms = rooms.low ++ rooms.high
-
--- What a caller that owns the rooms keeps between two calls.
-abbrev pub Keeps : Tally → Owned → Session → Type 0
-Keeps t rooms s = Kept t (rooms_in rooms) (values_in rooms) s
+-- The rooms of a session as one value that a caller owns.
+use Rattle.std.specs.Prelude.{pos, replicate}
+use Rattle.rooms.specs.declared.Rooms.{Rooms}
 
 -- Every room, all zeros.
-abbrev pub zeros : Owned
+abbrev pub zeros : Rooms
 zeros =
     record {
       rules = replicate 16384 (pos 0);

@@ -30,6 +30,24 @@ pub struct Rooms {
     pub high: [u8; 65536],
 }
 
+// The same rooms as they are lent, each by a reference of its own, so that a caller may keep them wherever it likes.
+#[derive(Drop)]
+pub struct RoomsMut<'a> {
+    pub rules: &'a mut [i32; 16384],
+    pub rule_ends: &'a mut [u32; 2048],
+    pub wishes: &'a mut [i32; 8192],
+    pub wish_ends: &'a mut [u32; 512],
+    pub wish_weights: &'a mut [u32; 512],
+    pub derived: &'a mut [i32; 16384],
+    pub derived_ends: &'a mut [u32; 4096],
+    pub inputs: &'a mut [i32; 8192],
+    pub counter_ends: &'a mut [u32; 128],
+    pub left: &'a mut [u32; 512],
+    pub outputs: &'a mut [u32; 8192],
+    pub low: &'a mut [u8; 4001],
+    pub high: &'a mut [u8; 65536],
+}
+
 impl Rooms {
     // The rooms of a fresh session.
     pub fn fresh() -> Rooms

@@ -13,13 +13,13 @@ ghost use Rattle.values.specs.Lent.{bytes, KeptValues};
 ghost use Rattle.rooms.specs.Held.{HeldRules, Zeros};
 
 use clauses::FamilyRoomsMut;
-use paper::{Answer, Outcome, Reason, Tally};
-use values::ValueRooms;
+use paper::{Answer, MOST_RULES, Outcome, Reason, Tally};
+use values::ValueRoomsMut;
 
 pub fn rule(
     tally: Tally,
     rules: &mut FamilyRoomsMut,
-    values: &mut ValueRooms,
+    values: &mut ValueRoomsMut,
     clause: &[i32],
 ) -> Outcome
     ensures same { SameFamily rules.old rules.new }
@@ -39,7 +39,7 @@ pub fn rule(
         return openings::refuse(tally, reason);
     }
     let count = tally.rules;
-    if 2047 < count || !rules.append(count, clause) {
+    if MOST_RULES <= count || !rules.append(count, clause) {
         return openings::refuse(tally, Reason::NoRoom);
     }
     Outcome {

@@ -39,9 +39,6 @@ records_fit (suc most) bytes = go (front bytes) refl (records_fit most)
 pub begins_same : (bytes first : List ℕ) → bytes ≡ first → Begins bytes first
 begins_same bytes first e = subst (λ (x : List ℕ). Begins x first) (sym e) (take-length first)
 
-pub begins_with : (bytes first first' : List ℕ) → first ≡ first' → Begins bytes first → Begins bytes first'
-begins_with bytes first first' e k = subst (Begins bytes) e k
-
 module _ (state : State) (input block : List ℕ) (e : block ≡ waiting state input) (s : Session) (done : Progress)
     (d : done ≡ progress_of state.last state.place s block (taken_from state.place block)) where
   pub turned : {rooms : Rooms} {values : List ℕ} → Kept done.tally rooms values (after s (taken_from state.place block))

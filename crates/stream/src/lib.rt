@@ -9,11 +9,11 @@ ghost use Rattle.std.specs.Prelude.{◌≡◌, ℕ, List, ◌++◌, ◌+◌, ◌
 ghost use Rattle.std.specs.Io.KnownBytes.{Consumes};
 ghost use Rattle.paper.specs.Session.{Session};
 ghost use Rattle.paper.specs.Inputs.{after as afterRecords};
-ghost use Rattle.rooms.specs.Owned.{rooms_in, values_in, Keeps};
+ghost use Rattle.rooms.specs.Lent.{rooms_in, values_in, Keeps, SameRooms, KeptWork};
 ghost use Rattle.turns.specs.Turns.{waiting, Within, Begins};
 ghost use Rattle.stream.specs.Taken.{taken, unanswered, Standing};
 
-use rooms::Rooms;
+use rooms::{Rooms, RoomsMut};
 use std::io::{Print, Read};
 use turns::State;
 
@@ -22,7 +22,7 @@ use turns::State;
 pub struct Finish {
     // how many bytes of its limit it did not read
     pub unread: u64,
-    // every line was written
+    // every line was written; no value stands beside it
     pub written: bool,
 }
 
@@ -32,13 +32,14 @@ fn turn<R: Read, W: Print>(
     source: &mut R,
     sink: &W,
     state: State,
-    rooms: &mut Rooms,
+    rooms: &mut RoomsMut,
     input: &mut [u8; 65536],
     out: &mut [u8; 16384],
 ) -> State
     requires standing { Standing state.tally (rooms_in rooms.old) (values_in rooms.old) }
     requires within { Within state (length input.old) }
-    ensures kept { (rooms.new.low ≡ rooms.old.low) × (rooms.new.high ≡ rooms.old.high) }
+    ensures same { SameRooms rooms.old rooms.new }
+    ensures kept { KeptWork rooms.old rooms.new }
     ensures less { result.unread ≤ state.unread }
     ensures waits { Within result (length input.new)
         × Begins (waiting result input.new) (unanswered state input.old) }
@@ -50,9 +51,9 @@ fn turn<R: Read, W: Print>(
         → (result.place ≡ state.place + length (taken state input.old))
         × Keeps result.tally rooms.new (afterRecords s (taken state input.old)) }
 {
-    let block = buffers::part(input, state.start, state.end);
+    let block = slices::part(input, state.start, state.end);
     let done = blocks::run_block(state.tally, rooms, block, state.last, state.place, out);
-    let written = sink.write_all(buffers::part(out, 0, done.written)).is_ok();
+    let written = sink.write_all(slices::part(out, 0, done.written)).is_ok();
     let next = turns::after(state, done, written);
     if next.over || 0 < done.consumed {
         return next;
@@ -69,6 +70,21 @@ pub fn run<R: Read, W: Print>(source: &mut R, sink: &W, limit: u64) -> Finish
         × (length read + result.unread ≡ limit) }
 {
     let mut rooms = Rooms::fresh();
+    let mut lent = RoomsMut {
+        rules: &mut rooms.rules,
+        rule_ends: &mut rooms.rule_ends,
+        wishes: &mut rooms.wishes,
+        wish_ends: &mut rooms.wish_ends,
+        wish_weights: &mut rooms.wish_weights,
+        derived: &mut rooms.derived,
+        derived_ends: &mut rooms.derived_ends,
+        inputs: &mut rooms.inputs,
+        counter_ends: &mut rooms.counter_ends,
+        left: &mut rooms.left,
+        outputs: &mut rooms.outputs,
+        low: &mut rooms.low,
+        high: &mut rooms.high,
+    };
     let mut input = [0u8; 65536];
     let mut out = [0u8; 16384];
     let mut state = turns::fresh(limit);
@@ -76,7 +92,7 @@ pub fn run<R: Read, W: Print>(source: &mut R, sink: &W, limit: u64) -> Finish
         if state.over {
             break;
         }
-        state = turn(source, sink, state, &mut rooms, &mut input, &mut out);
+        state = turn(source, sink, state, &mut lent, &mut input, &mut out);
     }
     Finish {
         unread: state.unread,

@@ -10,8 +10,9 @@ ghost use Rattle.paper.specs.Texts.{text_answer, text_room};
 ghost use Rattle.rooms.specs.Kept.{Kept};
 
 use paper::{Numbers, Tally, TextAnswer};
+use rooms::RoomsMut;
 
-// In C each room is a pointer of its own, and the payload a pointer and then its length: the C interface keeps the rooms one by one.
+// In C each room is a pointer of its own, and the payload a pointer and then its length. The rooms are put together here.
 #[unsafe(no_mangle)]
 pub extern "C" fn tally_answer(
     tally: &mut Tally,
@@ -65,8 +66,7 @@ pub extern "C" fn tally_answer(
         })
         (low.new ++ high.new) (record_next s (record { kind = kind; payload = payload.now })) }
 {
-    let done = tally::answer_numbered(
-        *tally,
+    let mut rooms = RoomsMut {
         rules,
         rule_ends,
         wishes,
@@ -80,9 +80,8 @@ pub extern "C" fn tally_answer(
         outputs,
         low,
         high,
-        kind,
-        payload,
-    );
+    };
+    let done = tally::answer_numbered(*tally, &mut rooms, kind, payload);
     *tally = done.tally;
     done.numbers
 }

@@ -7,8 +7,8 @@ use native.Mathlib.Omega.{arith}
 use lib.ListN.{length, take, drop, length-drop}
 use lib.Seq.{length-take-le, drop-drop, take-add, drop_at}
 use borrow.Author.Tests.{le-ltb}
-use Rattle.buffers.specs.Parts.{part_of}
-use Rattle.buffers.proofs.Moves.{part_is}
+use Rattle.slices.specs.Slices.{part_of}
+use Rattle.slices.proofs.Parts.{part_is}
 use Rattle.blocks.specs.declared.Progress.{Progress}
 use Rattle.turns.specs.Turns.{waiting, Within, onward}
 use Rattle.turns.specs.declared.State.{State}

@@ -2,7 +2,7 @@
 use Rattle.std.specs.Prelude.{◌≡◌, Bool, true, false, not, ◌&&◌, ◌||◌, List, ℕ, ◌+◌, ◌-◌, ◌≤◌, ltb, eqb, length, take}
 use Rattle.paper.specs.Clauses.{pick}
 use Rattle.paper.specs.Session.{fresh as freshSession, tally_of}
-use Rattle.buffers.specs.Parts.{part_of}
+use Rattle.slices.specs.Slices.{part_of}
 use Rattle.blocks.specs.declared.Progress.{Progress}
 use Rattle.turns.specs.declared.State.{State}
 

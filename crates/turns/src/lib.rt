@@ -22,11 +22,11 @@ pub struct State {
     pub end: usize,
     // how many bytes the run may still read
     pub unread: u64,
-    // nothing follows what the buffer has
+    // nothing follows what the buffer has; no value stands beside it
     pub last: bool,
-    // every line was written
+    // every line was written; no value stands beside it
     pub written: bool,
-    // no turn is to follow
+    // no turn is to follow; no value stands beside it
     pub over: bool,
 }
 

@@ -1,15 +1,22 @@
-// The values of variables in two lent rooms. Only `at` and `put` see two rooms; all else speaks of one list, the bytes of both.
+// The values of variables in two lent rooms. Only `at`, `put` and `view` see two rooms; all else speaks of one list, the bytes of both.
 #![tactic(auto)]
 
 ghost use Rattle.std.specs.Prelude.{◌≡◌, get_or, set};
 ghost use Rattle.paper.specs.Clauses.{variable};
 ghost use Rattle.paper.specs.Derivation.{is, assign as assignment};
 ghost use Rattle.values.specs.Values.{code, literal_in, assigned_in, unassigned_in};
-ghost use Rattle.values.specs.Lent.{bytes, known, SameValues};
+ghost use Rattle.values.specs.Lent.{bytes, bytes_in, known, SameValues};
 
-// The two rooms, a byte to a variable: 0 unassigned, 1 true, 2 false. One room for all would pass 64 KiB.
-#[derive(Drop)]
+// The two rooms to read, a byte to a variable: 0 unassigned, 1 true, 2 false. One room for all would pass 64 KiB.
+#[derive(Clone, Copy)]
 pub struct ValueRooms<'a> {
+    pub low: &'a [u8],
+    pub high: &'a [u8],
+}
+
+// The two rooms to write.
+#[derive(Drop)]
+pub struct ValueRoomsMut<'a> {
     pub low: &'a mut [u8],
     pub high: &'a mut [u8],
 }
@@ -27,8 +34,8 @@ pub fn byte_for(literal: i32, truth: bool) -> u8
 
 impl ValueRooms<'_> {
     // The byte of a variable; 0 where it has no place.
-    pub fn at(&self, variable: u32) -> u8
-        ensures { result ≡ get_or (bytes self.now) variable 0 }
+    pub fn at(self, variable: u32) -> u8
+        ensures { result ≡ get_or (bytes_in self.entry) variable 0 }
     {
         let place = variable as usize;
         if place < self.low.len() {
@@ -39,6 +46,29 @@ impl ValueRooms<'_> {
             return self.high[rest];
         }
         0
+    }
+
+    // The truth of a literal, none where it is unassigned.
+    pub fn value(self, literal: i32) -> Option<bool>
+        ensures { known result ≡ literal_in (bytes_in self.entry) literal }
+    {
+        let byte = self.at(variables::variable_of(literal));
+        if byte == 0 {
+            return None;
+        }
+        Some((byte == 1) != variables::is_negative(literal))
+    }
+}
+
+impl ValueRoomsMut<'_> {
+    // The rooms as they are now, to read.
+    pub fn view(&self) -> ValueRooms<'_>
+        ensures { (result.low.now ≡ self.now.low.now) × (result.high.now ≡ self.now.high.now) }
+    {
+        ValueRooms {
+            low: self.low,
+            high: self.high,
+        }
     }
 
     // A variable that has no place is left alone.
@@ -55,17 +85,6 @@ impl ValueRooms<'_> {
         if rest < self.high.len() {
             self.high[rest] = byte;
         }
-    }
-
-    // The truth of a literal, none where it is unassigned.
-    pub fn value(&self, literal: i32) -> Option<bool>
-        ensures { known result ≡ literal_in (bytes self.now) literal }
-    {
-        let byte = self.at(variables::variable_of(literal));
-        if byte == 0 {
-            return None;
-        }
-        Some((byte == 1) != variables::is_negative(literal))
     }
 
     pub fn assign(&mut self, literal: i32, truth: bool)

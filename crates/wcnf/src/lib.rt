@@ -12,14 +12,10 @@ ghost use Rattle.words.specs.Words.{words_at};
 ghost use Rattle.wcnf.specs.Rooms.{Keeps};
 ghost use Rattle.wcnf.specs.Steps.{OneClause, Came};
 
-use paper::{Header, Reason, TextAnswer};
-use values::ValueRooms;
+use paper::{Header, MOST_VARIABLES, MOST_WEIGHT, Reason, TextAnswer};
+use values::ValueRoomsMut;
 
 const MOST_TEXT: usize = 16384;
-
-const MOST_VARIABLES: u32 = 2000;
-
-const MOST_WEIGHT: u32 = 1000000;
 
 // Why a text is refused, and where.
 #[derive(Clone, Copy, PartialEq, Eq)]
@@ -61,7 +57,7 @@ fn clause_refusal(
     weight: u32,
     literals: &[i32],
     count: usize,
-    values: &mut ValueRooms,
+    values: &mut ValueRoomsMut,
 ) -> Result<(), Reason>
     ensures kept { KeptValues values.old values.new }
     ensures within { IsOk result → count ≤ length literals.now }
@@ -85,7 +81,7 @@ fn read_clause(
     end: usize,
     header: Header,
     literals: &mut [i32],
-    values: &mut ValueRooms,
+    values: &mut ValueRoomsMut,
     out: &mut [u8],
     at: usize,
 ) -> Result<Step, Fault>
@@ -122,7 +118,7 @@ fn read_clauses(
     from: usize,
     header: Header,
     literals: &mut [i32],
-    values: &mut ValueRooms,
+    values: &mut ValueRoomsMut,
     out: &mut [u8],
 ) -> Result<usize, Fault>
     requires literals_len { length literals.old ≡ 64 }
@@ -133,6 +129,7 @@ fn read_clauses(
     let mut written = output::put_open(out, 0, header.variables);
     let mut place = from;
     let mut clauses: usize = 0;
+    // No `for`: where the next clause begins, the reading of this one tells.
     while let Some(found) = words::next_word(text, place) {
         let start = found.start;
         let end = found.end;
@@ -177,7 +174,7 @@ fn read_records(text: &[u8], out: &mut [u8]) -> Result<usize, Fault>
     let mut literals = [0i32; 64];
     let mut low = [0u8; 2001];
     let mut high = [0u8; 1];
-    let mut values = ValueRooms {
+    let mut values = ValueRoomsMut {
         low: &mut low,
         high: &mut high,
     };

@@ -17,9 +17,8 @@ ghost use Rattle.weigh.specs.Weighing.{wish_sum, output_sum, counter_sum};
 ghost use Rattle.weigh.specs.Marks.{Marked, inputs_at, broken_mark, count_mark, truth_in, input_truth, OverWishes, OverCounters};
 
 use clauses::FamilyRooms;
-use paper::{FIRST_COUNTER, FIRST_WISH, Tally, Width};
-
-const MOST_WISHES: u32 = 512;
+use paper::{FIRST_COUNTER, FIRST_WISH, MOST_WISHES, Tally, Width};
+use weights::WeightRooms;
 
 const MOST_INPUTS: usize = 255;
 
@@ -54,10 +53,7 @@ fn weigh_wish(
         return 0;
     }
     let place = number as usize;
-    // By its index: a proof does not know what is written through a slice's `get_mut`.
-    if place < broken.len() {
-        broken[place] = 1;
-    }
+    slices::store(broken, place, 1);
     u64::from(left.get(place).copied().unwrap_or(0))
 }
 
@@ -173,11 +169,7 @@ fn weigh_counter(
         × (result ≡ output_sum t f (counter_start width number) (length (inputs_at s number)))) }
 {
     let true_inputs = true_count(width, counters.clause(count, number), broken, counts);
-    let place = number as usize;
-    // By its index: a proof does not know what is written through a slice's `get_mut`.
-    if place < counts.len() {
-        counts[place] = true_inputs;
-    }
+    slices::store(counts, number as usize, true_inputs);
     outputs_weight(width, outputs, number, true_inputs)
 }
 
@@ -214,8 +206,7 @@ pub fn weigh(
     tally: Tally,
     wishes: FamilyRooms,
     counters: FamilyRooms,
-    left: &[u32],
-    outputs: &[u32],
+    weights: WeightRooms,
     arrangement: &[u8],
     broken: &mut [u8],
     counts: &mut [u8],
@@ -223,7 +214,7 @@ pub fn weigh(
     ensures { (s : Session) (n m : ℕ) → Reached s → tally ≡ tally_of s
         → HeldIn wish_room wishes.entry.literals.now wishes.entry.ends.now (wish_family s.sheet.wishes)
         → HeldCounters counters.entry.literals.now counters.entry.ends.now s
-        → HeldWeights left.now outputs.now s
+        → HeldWeights weights.entry.wishes.now weights.entry.outputs.now s
         → broken.old ≡ replicate n 0 → length s.sheet.wishes ≤ n
         → counts.old ≡ replicate m 0 → length s.work.counters ≤ m
         → (broken.new ≡ broken.old) × (counts.new ≡ counts.old)
@@ -236,8 +227,15 @@ pub fn weigh(
     if MOST_WISHES < tally.wishes || width.counters < tally.counters {
         return 0;
     }
-    let on_wishes = weigh_wishes(tally.wishes, wishes, left, arrangement, broken);
-    let on_outputs = weigh_counters(width, tally.counters, counters, outputs, broken, counts);
+    let on_wishes = weigh_wishes(tally.wishes, wishes, weights.wishes, arrangement, broken);
+    let on_outputs = weigh_counters(
+        width,
+        tally.counters,
+        counters,
+        weights.outputs,
+        broken,
+        counts,
+    );
     clear(broken, tally.wishes);
     clear(counts, tally.counters);
     u64::from(tally.bound) + on_wishes + on_outputs

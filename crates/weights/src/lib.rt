@@ -3,7 +3,7 @@
 // it says, it says of each function of the variable that the rooms weigh.
 #![tactic(auto)]
 
-ghost use Rattle.std.specs.Prelude.{◌≡◌, List, [], ◌∷◌, map, ℕ, ◌+◌, ◌-◌, ◌*◌, ◌^◌, ◌<◌, ◌≤◌, get_or, set};
+ghost use Rattle.std.specs.Prelude.{◌≡◌, List, [], ◌∷◌, map, ℕ, ◌+◌, ◌-◌, ◌*◌, ◌<◌, ◌≤◌, get_or, set};
 ghost use Rattle.paper.specs.Sizes.{wish_room, wish_variable, counter_start};
 ghost use Rattle.paper.specs.declared.Width.{Width};
 ghost use Rattle.paper.specs.Clauses.{variable};
@@ -13,9 +13,16 @@ ghost use Rattle.weights.specs.Lent.{SameWeights};
 
 use paper::{FIRST_COUNTER, FIRST_WISH, Width};
 
-// The two rooms: the wishes' own weights, and those of the counters' root outputs.
-#[derive(Drop)]
+// The two rooms, to read: the wishes' own weights, and those of the counters' root outputs.
+#[derive(Clone, Copy)]
 pub struct WeightRooms<'a> {
+    pub wishes: &'a [u32],
+    pub outputs: &'a [u32],
+}
+
+// The two rooms, to write.
+#[derive(Drop)]
+pub struct WeightRoomsMut<'a> {
     pub wishes: &'a mut [u32],
     pub outputs: &'a mut [u32],
 }
@@ -53,22 +60,12 @@ fn place_of(width: Width, variable: u32) -> Option<Place>
     Some(Place::InOutputs(output_place(width.literals, counter, output)))
 }
 
-// Down to 0 and no further, whatever the room holds; past its end nothing is lowered.
-fn lower_at(room: &mut [u32], at: usize, weight: u32)
-    ensures { room.new ≡ set room.old at (get_or room.old at 0 - weight) }
-{
-    // By its index: a proof does not know what is written through a slice's `get_mut`.
-    if at < room.len() {
-        room[at] = room[at].saturating_sub(weight);
-    }
-}
+// ── Reading ──
 
 impl WeightRooms<'_> {
-    // ── Reading ──
-
     // The remaining weight of a variable; one without a place has none.
-    pub fn weight_of(&self, width: Width, variable: u32) -> u32
-        ensures { (f : ℕ → ℕ) → Spaced width → Weighs width self.now.wishes.now self.now.outputs.now f
+    pub fn weight_of(self, width: Width, variable: u32) -> u32
+        ensures { (f : ℕ → ℕ) → Spaced width → Weighs width self.entry.wishes.now self.entry.outputs.now f
             → Elsewhere width f → result ≡ f variable }
     {
         match place_of(width, variable) {
@@ -79,8 +76,8 @@ impl WeightRooms<'_> {
     }
 
     // The weight that a member of a core has; a literal that is negative or has no weight is none.
-    fn member_weight(&self, width: Width, literal: i32) -> Option<u32>
-        ensures { (f : ℕ → ℕ) → Spaced width → Weighs width self.now.wishes.now self.now.outputs.now f
+    fn member_weight(self, width: Width, literal: i32) -> Option<u32>
+        ensures { (f : ℕ → ℕ) → Spaced width → Weighs width self.entry.wishes.now self.entry.outputs.now f
             → Elsewhere width f → result ≡ member_weight f literal }
     {
         let weight = self.weight_of(width, variables::variable_of(literal));
@@ -91,8 +88,8 @@ impl WeightRooms<'_> {
     }
 
     // The least weight of the members: none exactly where the clause is no core, which 22 refuses.
-    pub fn least(&self, width: Width, clause: &[i32]) -> Option<u32>
-        ensures { (f : ℕ → ℕ) → Spaced width → Weighs width self.now.wishes.now self.now.outputs.now f
+    pub fn least(self, width: Width, clause: &[i32]) -> Option<u32>
+        ensures { (f : ℕ → ℕ) → Spaced width → Weighs width self.entry.wishes.now self.entry.outputs.now f
             → Elsewhere width f → result ≡ least_member f clause.now }
     {
         let mut least: Option<u32> = None;
@@ -105,8 +102,28 @@ impl WeightRooms<'_> {
         }
         least
     }
+}
 
-    // ── Changing ──
+// ── Changing ──
+
+// Down to 0 and no further, whatever the room holds; past its end nothing is lowered.
+fn lower_at(room: &mut [u32], at: usize, weight: u32)
+    ensures { room.new ≡ set room.old at (get_or room.old at 0 - weight) }
+{
+    let held = room.get(at).copied().unwrap_or(0);
+    slices::store(room, at, held.saturating_sub(weight));
+}
+
+impl WeightRoomsMut<'_> {
+    // The rooms as they are now, to read.
+    pub fn view(&self) -> WeightRooms<'_>
+        ensures { (result.wishes.now ≡ self.now.wishes.now) × (result.outputs.now ≡ self.now.outputs.now) }
+    {
+        WeightRooms {
+            wishes: self.wishes,
+            outputs: self.outputs,
+        }
+    }
 
     fn lower_one(&mut self, width: Width, variable: u32, weight: u32)
         ensures same { SameWeights self.old self.new }
@@ -131,23 +148,18 @@ impl WeightRooms<'_> {
             self.lower_one(width, variable, weight);
         }
     }
+}
 
-    // Root outputs 2 to `inputs` of a new counter get the core's weight; output 1 gets none, since the bound has it.
-    pub fn raise(&mut self, width: Width, counter: u32, inputs: u32, weight: u32)
-        ensures same { SameWeights self.old self.new }
-        ensures wishes { self.new.wishes.now ≡ self.old.wishes.now }
-        ensures raised { (wishes : List ℕ) (f : ℕ → ℕ) → Spaced width → Weighs width wishes self.old.outputs.now f
-            → inputs ≤ width.literals → ((t : ℕ) → 0 < t → t < inputs → f (counter_start width counter + t) ≡ 0)
-            → Weighs width wishes self.new.outputs.now
-            (gained f weight (upper_outputs (counter_start width counter) inputs)) }
-    {
-        for output in 1..inputs {
-            let at = output_place(width.literals, counter, output);
-            // By its index: a proof does not know what is written through a slice's `get_mut`.
-            if at < self.outputs.len() {
-                self.outputs[at] = weight;
-            }
-        }
+// Root outputs 2 to `inputs` of a new counter get the core's weight, where the room has places for them; output 1 gets none, since the
+// bound has it.
+pub fn raise(outputs: &mut [u32], width: Width, counter: u32, inputs: u32, weight: u32)
+    ensures { (wishes : List ℕ) (f : ℕ → ℕ) → Spaced width → Weighs width wishes outputs.old f
+        → inputs ≤ width.literals → ((t : ℕ) → 0 < t → t < inputs → f (counter_start width counter + t) ≡ 0)
+        → Weighs width wishes outputs.new (gained f weight (upper_outputs (counter_start width counter) inputs)) }
+{
+    for output in 1..inputs {
+        let at = output_place(width.literals, counter, output);
+        slices::store(outputs, at, weight);
     }
 }
 
@@ -157,9 +169,5 @@ pub fn start(wishes: &mut [u32], number: u32, weight: u32)
         → number < wish_room.clauses → f (wish_variable number) ≡ 0
         → Weighs u wishes.new outputs (gained f weight (wish_variable number ∷ [])) }
 {
-    let at = number as usize;
-    // By its index: a proof does not know what is written through a slice's `get_mut`.
-    if at < wishes.len() {
-        wishes[at] = weight;
-    }
+    slices::store(wishes, number as usize, weight);
 }

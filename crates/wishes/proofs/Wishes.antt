@@ -80,7 +80,7 @@ module _ (s : Session) (t : Tally) (eq : t ≡ tally_of s) (w : ℕ) (c : Clause
         wish_refused h = left_all k (part_refuses s t eq (wish w c) table crowded refl plain begins k found h)
 
         module _ (z : k ≡ 0) where
-          pub wish_crowded : 511 < t.wishes → Left 23 literals ends
+          pub wish_crowded : 512 ≤ t.wishes → Left 23 literals ends
           wish_crowded h =
               left_all 23 (full_refuses s t eq (wish w c) table crowded refl plain begins k found z
               (none_left wish_room (lit< tt) literals ends (wish_family s.sheet.wishes) H.clauses t.wishes count_is c h))
@@ -98,7 +98,7 @@ module _ (s : Session) (t : Tally) (eq : t ≡ tally_of s) (w : ℕ) (c : Clause
                   rw r.same G,
                 )
 
-            module _ (reached : Reached s) (few : t.wishes ≤ 511) (weights' left' : List ℕ) (stores : weights' ≡ set weights t.wishes w)
+            module _ (reached : Reached s) (few : t.wishes < 512) (weights' left' : List ℕ) (stores : weights' ≡ set weights t.wishes w)
                 (starts : (f : ℕ → ℕ) → Weighs s.sheet.width left outputs f → t.wishes < wish_room.clauses → f (wish_variable t.wishes) ≡ 0
                 → Weighs s.sheet.width left' outputs (gained f w (wish_variable t.wishes ∷ []))) where
               long : t.wishes ≡ length s.sheet.wishes

@@ -13,8 +13,8 @@ ghost use Rattle.values.specs.Lent.{bytes, KeptValues};
 ghost use Rattle.rooms.specs.Held.{HeldWishes, HeldWeights, Zeros};
 
 use clauses::FamilyRoomsMut;
-use paper::{Answer, FIRST_WISH, Outcome, Reason, Tally};
-use values::ValueRooms;
+use paper::{Answer, FIRST_WISH, MOST_WEIGHT, MOST_WISHES, Outcome, Reason, Tally};
+use values::ValueRoomsMut;
 
 // `left` is the room of the remaining weights of wish variables.
 pub fn wish(
@@ -22,7 +22,7 @@ pub fn wish(
     wishes: &mut FamilyRoomsMut,
     weights: &mut [u32],
     left: &mut [u32],
-    values: &mut ValueRooms,
+    values: &mut ValueRoomsMut,
     weight: u32,
     clause: &[i32],
 ) -> Outcome
@@ -40,7 +40,7 @@ pub fn wish(
     if variables == 0 {
         return openings::refuse(tally, Reason::OutOfTurn);
     }
-    if weight < 1 || 1000000 < weight {
+    if weight < 1 || MOST_WEIGHT < weight {
         return openings::refuse(tally, Reason::WrongWeight);
     }
     let most = openings::width_of(tally).literals as usize;
@@ -48,14 +48,10 @@ pub fn wish(
         return openings::refuse(tally, reason);
     }
     let count = tally.wishes;
-    if 511 < count || !wishes.append(count, clause) {
+    if MOST_WISHES <= count || !wishes.append(count, clause) {
         return openings::refuse(tally, Reason::NoRoom);
     }
-    // An index test, since after a slice's `get_mut` a proof knows only the length.
-    let place = count as usize;
-    if place < weights.len() {
-        weights[place] = weight;
-    }
+    slices::store(weights, count as usize, weight);
     weights::start(left, count, weight);
     Outcome {
         tally: Tally {

@@ -9,6 +9,7 @@ ghost use Rattle.words.specs.Words.{starts_line, stand_at, Next};
 
 use std::ops::Range;
 
+// A blank is the description's, space, tab, CR and LF and no other: `is_ascii_whitespace` has the form feed too.
 pub fn is_blank(byte: u8) -> bool
     ensures { result ≡ blank byte }
 {

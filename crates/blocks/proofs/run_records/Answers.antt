@@ -1,5 +1,5 @@
 -- What is left to answer is nothing, or a record and the rest.
-use Rattle.std.proofs.Common.{◌≡◌, ◌-◌, ◌∙◌, sym, drop, arith}
+use Rattle.std.proofs.Common.{◌≡◌, ◌-◌, ◌∙◌, sym, drop, arith, rules}
 use Rattle.blocks.proofs.Blocks.{none_whole, none_asked, going_on, going_ends}
 use Rattle.blocks.proofs.run_records.Goals as goal
 
@@ -15,8 +15,8 @@ loop-answered-preserved c =
     let whole = sym c.front.ensures ∙ c.in-Whole.is in
     let some : c.args.most - o._answered ≡ 0 → ⊥ = λ e. omega (arith, e, c.loop-answered-test.true) in
     record {
-      low_kept = cc;
-      high_kept = cc;
+      same = search rules;
+      kept = search rules;
       going = going_on o.invariant.going _ _ _ whole some (omega arith) c.answer_next-progress.ensures.moved c.answer_next-progress.ensures.ran;
     }
 

@@ -1,7 +1,7 @@
 -- `counters::node_clause` meets its contract.
 use Rattle.std.proofs.Common.{arith, length}
 use Rattle.paper.proofs.Trees.{table_rule}
-use Rattle.counters.proofs.Halves.{half, others, left-length, right_length, within, own_small, own_clause}
+use Rattle.counters.proofs.Halves.{left-length, right_length, own_clause}
 use Rattle.counters.proofs.node_clause.Goals as goal
 
 pub first_output-left-requires : goal.first_output-left-requires
@@ -21,18 +21,6 @@ first_output-right-requires c =
     let xs = c.args.inputs.now in
     let rule = (table_rule (length xs) c.requires.in_bounds.0).0 in
     omega (arith, right_length xs, c.variables_of.ensures.0 (omega arith))
-
-pub overflow_add-place : goal.overflow_add-place
-overflow_add-place c =
-    let xs = c.args.inputs.now in
-    omega (arith, own_small (half xs) (others xs) (omega arith) (omega arith))
-
-pub sum_clause-requires : goal.sum_clause-requires
-sum_clause-requires c =
-    let xs = c.args.inputs.now in
-    let rule = (table_rule (length xs) c.requires.in_bounds.0).0 in
-    let counts = within (half xs) (others xs) c.args.number c.requires.number_bound in
-    omega (arith, left-length xs, right_length xs)
 
 pub returns : goal.returns
 returns c =

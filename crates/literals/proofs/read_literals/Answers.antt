@@ -17,7 +17,7 @@ returns-then-literal-eq0 c =
 pub loop-found-preserved : goal.loop-found-preserved
 loop-found-preserved c =
     let z : to_z w32 (of_z w32 c.in-Some-read_literal.literal) ≡ c.in-Some-read_literal.literal = search rules in
-    read_more c.loop-found.invariant c.in-Some.ensures c.in-Some-read_literal.ensures (λ e. c.if-literal-eq0.false (ap (of_z w32) e)) (rw z at c.keep.ensures)
+    read_more c.loop-found.invariant c.in-Some.ensures c.in-Some-read_literal.ensures (λ e. c.if-literal-eq0.false (ap (of_z w32) e)) (rw z at c.store.ensures)
 
 pub returns : goal.returns
 returns c = at_end c.loop-found.invariant c.in_default.ensures

@@ -4,5 +4,5 @@ use Rattle.std.proofs.lemmas.Grind.{common_steps}
 use Rattle.marks.proofs.Marks.{unmarked_next}
 use Rattle.marks.proofs.assign_next.Goals as goal
 
-pub returns-then-count-trail-clause-undone : goal.returns-then-count-trail-clause-undone
-returns-then-count-trail-clause-undone c = grind (arith, common_steps, unmarked_next)
+pub returns-clause-undone : goal.returns-clause-undone
+returns-clause-undone c = grind (arith, common_steps, unmarked_next)

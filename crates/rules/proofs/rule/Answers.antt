@@ -4,7 +4,7 @@ use Rattle.paper.specs.declared.Width.{Width}
 use Rattle.clauses.proofs.Lowest.{reason_some}
 use Rattle.rooms.proofs.Admissions.{number_is}
 use Rattle.rules.proofs.Rules.{rule_refused, rule_crowded, rule_full, rule_stored}
-use Rattle.rules.proofs.rule.Goals.{then-count-gt2047-via-then-count-gt2047, then-count-gt2047-via-else-count-gt2047+then-not-append}
+use Rattle.rules.proofs.rule.Goals.{then-count-ge-MOST_RULES-via-then-count-ge-MOST_RULES, then-count-ge-MOST_RULES-via-else-count-ge-MOST_RULES+then-not-append}
 use Rattle.rules.proofs.rule.Goals as goal
 
 pub returns-in-Err-clause-stepped : goal.returns-in-Err-clause-stepped
@@ -15,19 +15,19 @@ returns-in-Err-clause-stepped c =
     let l = rule_refused s a.tally eq a.clause.now _ _ H c.if-variables-eq0.false _ found (reason_some c.in-Err.reason) in
     (c.refuse-in-Err.ensures ∙ l.0, l.1)
 
-pub returns-then-count-gt2047-clause-stepped : goal.returns-then-count-gt2047-clause-stepped
-returns-then-count-gt2047-clause-stepped c =
+pub returns-then-count-ge-MOST_RULES-clause-stepped : goal.returns-then-count-ge-MOST_RULES-clause-stepped
+returns-then-count-ge-MOST_RULES-clause-stepped c =
     λ s r eq H z.
     let a = c.args in
     let found = number_is s a.tally eq r _ z _ 0 a.clause.now (ap (λ (x : Width). x.literals) c.width_of-most.ensures) c.in_default.ensures.answer in
-    elim c.then-count-gt2047.branch [
-      | then-count-gt2047-via-then-count-gt2047 w ↦
-          let l = rule_crowded s a.tally eq a.clause.now _ _ H c.if-variables-eq0.false 0 found refl w.if-count-gt2047.true in
-          rw w.rules-is (c.refuse-then-count-gt2047.ensures ∙ l.0, l.1)
-      | then-count-gt2047-via-else-count-gt2047+then-not-append w ↦
+    elim c.then-count-ge-MOST_RULES.branch [
+      | then-count-ge-MOST_RULES-via-then-count-ge-MOST_RULES w ↦
+          let l = rule_crowded s a.tally eq a.clause.now _ _ H c.if-variables-eq0.false 0 found refl w.if-count-ge-MOST_RULES.true in
+          rw w.rules-is (c.refuse-then-count-ge-MOST_RULES.ensures ∙ l.0, l.1)
+      | then-count-ge-MOST_RULES-via-else-count-ge-MOST_RULES+then-not-append w ↦
           let l =
           rule_full s a.tally eq a.clause.now _ _ H c.if-variables-eq0.false 0 found refl w.append.result _ _ w.append.ensures.appended w.if-not-append.true in
-          rw w.rules-is (c.refuse-then-count-gt2047.ensures ∙ l.0, l.1)
+          rw w.rules-is (c.refuse-then-count-ge-MOST_RULES.ensures ∙ l.0, l.1)
     ]
 
 pub returns-clause-stepped : goal.returns-clause-stepped

@@ -2,7 +2,7 @@
 use Rattle.std.proofs.Common.{ℕ, List, [], ◌++◌, ◌∙◌, ap, arith}
 use Rattle.std.proofs.KnownBytes.{Consumes-nil}
 use Rattle.turns.specs.declared.State.{State}
-use Rattle.stream.proofs.Turned.{turned, left_waiting, left_begins, left_alone, begins_with}
+use Rattle.stream.proofs.Turned.{turned, left_waiting, left_begins, left_alone}
 use Rattle.stream.proofs.turn.Goals as goal
 
 pub returns-then-next-clause-waits : goal.returns-then-next-clause-waits
@@ -15,13 +15,6 @@ returns-then-next-clause-came g c =
     let ran = c.run_block-done.ensures.ran c.requires.standing.session c.requires.standing.kept in
     let alone = left_alone c.args.state c.args.input.now _ c.part-block.ensures _ _ ran.0 c.requires.within _ _ c.after-next.ensures in
     ([], Consumes-nil _, omega (arith, alone.0), alone.1)
-
-pub returns-clause-waits : goal.returns-clause-waits
-returns-clause-waits g c =
-    let ran = c.run_block-done.ensures.ran c.requires.standing.session c.requires.standing.kept in
-    let left = left_waiting c.args.state c.args.input.now _ c.part-block.ensures _ _ ran.0 c.requires.within _ _ c.after-next.ensures in
-    let waits = c.refill.ensures.kept left.0 in
-    (waits.0, begins_with _ _ _ left.1 waits.1)
 
 pub returns-clause-turned : goal.returns-clause-turned
 returns-clause-turned g c = λ s k.

@@ -1,18 +1,16 @@
 -- Each turn adds the weight at one place of the outputs.
-use Rattle.std.proofs.Common.{◌≡◌, ◌∙◌, ◌+◌, arith, rules, get_or, refl}
+use Rattle.std.proofs.Common.{◌≡◌, ◌∙◌, arith}
+use Rattle.std.proofs.lemmas.Grind.{common_steps}
 use Rattle.weigh.specs.Weighing.{output_sum}
 use Rattle.weigh.proofs.Sums.{output_more, outputs_stand}
 use Rattle.weigh.proofs.outputs_weight.Goals as goal
 
 pub loop-output-init : goal.loop-output-init
 unfolding output_sum
-loop-output-init c = record { fits = omega arith; same = refl }
+loop-output-init c = grind (arith, common_steps)
 
 pub loop-output-preserved : goal.loop-output-preserved
-loop-output-preserved c =
-    let more = output_more (λ i. get_or c.args.outputs.now i 0) c.first_place-first.result c.loop-output.output in
-    let weight : c.unwrap_or.result ≡ get_or c.args.outputs.now (c.first_place-first.result + c.loop-output.output) 0 = search rules in
-    record { fits = omega arith; same = omega arith }
+loop-output-preserved c = grind (arith, common_steps, output_more)
 
 pub returns : goal.returns
 returns c =

@@ -1,12 +1,13 @@
 -- Each turn weighs one counter, by the counts of those before it.
-use Rattle.std.proofs.Common.{◌≡◌, arith, refl}
+use Rattle.std.proofs.Common.{◌≡◌, arith}
+use Rattle.std.proofs.lemmas.Grind.{common_steps}
 use Rattle.weigh.specs.Weighing.{counter_sum}
 use Rattle.weigh.proofs.Sums.{counter_more}
 use Rattle.weigh.proofs.weigh_counters.Goals as goal
 
 pub loop-number-init : goal.loop-number-init
 unfolding counter_sum
-loop-number-init c = record { fits = omega arith; weighed = λ s a t f size W M. (M, refl) }
+loop-number-init c = grind (arith, common_steps)
 
 pub loop-number-preserved : goal.loop-number-preserved
 loop-number-preserved c =

@@ -1,8 +1,6 @@
 -- Each way out is one law of Wishes.
-use Rattle.std.proofs.Common.{arith, rules, ◌≡◌, sym, ◌∙◌, get_or, set}
-use Rattle.std.proofs.lemmas.List.{set_past}
+use Rattle.std.proofs.Common.{arith, rules, ◌≡◌, get_or}
 use Rattle.weigh.proofs.Wishes.{counted, kept, breaks}
-use Rattle.weigh.proofs.weigh_wish.Goals.{then-place-broken, else-place-broken}
 use Rattle.weigh.proofs.weigh_wish.Goals as goal
 
 pub returns-then-clause_holds : goal.returns-then-clause_holds
@@ -13,13 +11,9 @@ returns-then-clause_holds c = (
 
 pub returns : goal.returns
 returns c =
-    let stored : c.if-place-broken.broken ≡ set c.args.broken.now c.args.number 1 = elim c.if-place-broken.branch [
-      | then-place-broken w ↦ w.broken-is
-      | else-place-broken w ↦ w.broken-is ∙ sym (set_past c.args.broken.now c.args.number 1 w.if-place-broken.false)
-    ] in
     let weight : c.from.result ≡ get_or c.args.left.now c.args.number 0 = search rules in (
       omega arith,
       λ s t f size W h M.
-          breaks W c.args.number h _ (c.clause.ensures _ _ _ (counted W)) _ c.clause_holds.ensures M c.if-clause_holds.false _ stored _
+          breaks W c.args.number h _ (c.clause.ensures _ _ _ (counted W)) _ c.clause_holds.ensures M c.if-clause_holds.false _ c.store.ensures _
           weight,
     )

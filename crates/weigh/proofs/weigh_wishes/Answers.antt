@@ -1,12 +1,13 @@
 -- Each turn marks one wish and adds its weight where it is broken.
-use Rattle.std.proofs.Common.{◌≡◌, arith, refl}
+use Rattle.std.proofs.Common.{◌≡◌, arith}
+use Rattle.std.proofs.lemmas.Grind.{common_steps}
 use Rattle.weigh.specs.Weighing.{wish_sum}
 use Rattle.weigh.proofs.Sums.{wish_more}
 use Rattle.weigh.proofs.weigh_wishes.Goals as goal
 
 pub loop-number-init : goal.loop-number-init
 unfolding wish_sum
-loop-number-init c = record { fits = omega arith; weighed = λ s t f size W M. (M, refl) }
+loop-number-init c = grind (arith, common_steps)
 
 pub loop-number-preserved : goal.loop-number-preserved
 loop-number-preserved c =

@@ -1,20 +1,10 @@
 -- A literal without weight decides alone; another one takes the least weight down to its own.
-use Rattle.std.proofs.Common.{arith, rules, ◌≡◌, ap, sym, ◌∙◌, get_or, pos, to_z, of_z, Some, None}
+use Rattle.std.proofs.Common.{arith, rules, ◌≡◌, ap, sym, ◌∙◌, get_or, pos, to_z, of_z, Some}
 use mir.Syntax.{w32}
 use Rattle.weights.specs.Weights.{is_member, member_weight}
-use Rattle.weights.proofs.Members.{some_weight, lesser, every_more, least_more, none_least}
+use Rattle.weights.proofs.Members.{some_weight, lesser, every_more, least_more}
 use Rattle.weights.proofs.WeightRooms.least.Goals.{in-Some, in-None}
 use Rattle.weights.proofs.WeightRooms.least.Goals as goal
-
-pub returns-in_err-weight : goal.returns-in_err-weight
-returns-in_err-weight c =
-    let o = c.loop-literal in
-    let l = get_or c.args.clause.now o.literal-index (pos 0) in
-    let z : to_z w32 (of_z w32 l) ≡ l = search rules in
-    let refused : c.from_residual.result ≡ None = search rules in
-    λ f spaced weighs none.
-    let w = c.member_weight.ensures f spaced weighs none ∙ ap (member_weight f) z in
-    refused ∙ sym (none_least f c.args.clause.now o.literal-index c.loop-literal-test.true (sym w ∙ c.in_err-weight.was))
 
 pub loop-literal-preserved : goal.loop-literal-preserved
 loop-literal-preserved c =

@@ -1,2 +1,0 @@
--- What the crates above cite of a part.
-pub mod Moves

@@ -1,0 +1,2 @@
+-- What the crates above cite of a part.
+pub mod Parts
