@@ -123,7 +123,7 @@ pub fn run_block(
     if !frames::stops(block, done.consumed, last) {
         return done;
     }
-    let none = Numbers::from(Answer::Refused(Reason::NoRecord.number()));
+    let none = Numbers::from(Answer::from(Reason::NoRecord));
     let written = lines::put_line(out, done.written, done.place, 0, none);
     Progress {
         written,

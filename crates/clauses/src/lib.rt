@@ -17,7 +17,8 @@ pub struct FamilyRooms<'literals, 'ends> {
     pub ends: &'ends [u32],
 }
 
-// The two rooms of a family, to add to.
+// The two rooms of a family, to add to. The rooms of values and of weights have such a pair of structs too, and no generic one serves the
+// three: its fields would have no names.
 #[derive(Drop)]
 pub struct FamilyRoomsMut<'a> {
     pub literals: &'a mut [i32],

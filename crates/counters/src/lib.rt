@@ -7,8 +7,6 @@ ghost use Rattle.paper.specs.Clauses.{Clause};
 ghost use Rattle.paper.specs.Counters.{output, unless, sum_clause, own_clauses, clause_at, variables_of};
 ghost use Rattle.counters.specs.Numbered.{counter_of, numbered, Holds, Found};
 
-use tables::Tables;
-
 // A clause of up to three literals. The entries past its length are 0: `counter_clause` promises these too, by `Holds`, and of the
 // unused places of an `arrayvec` no clause says anything.
 #[derive(Clone, Copy)]
@@ -75,7 +73,7 @@ fn first_output(inputs: &[i32], start: usize) -> usize
 }
 
 // A clause of the top node itself.
-fn node_clause(tables: Tables<'_>, inputs: &[i32], start: usize, number: usize) -> Three
+fn node_clause(inputs: &[i32], start: usize, number: usize) -> Three
     requires in_bounds { (1 < length inputs.now) × (length inputs.now ≤ 64) }
     requires inputs_bound { start + variables_of (length inputs.now) ≤ 1000384 }
     requires number_bound { number < own_clauses (length inputs.now / 2) (length inputs.now - length inputs.now / 2) }
@@ -85,13 +83,14 @@ fn node_clause(tables: Tables<'_>, inputs: &[i32], start: usize, number: usize) 
     let half = size / 2;
     let columns = size - half + 1;
     let left = first_output(&inputs[..half], start + size);
-    let right = first_output(&inputs[half..], start + size + tables.variables_of(half));
+    let right = first_output(&inputs[half..], start + size + tables::variables_of(half));
     let place = number + 1;
     sum_clause(left, right, start, place / columns, place % columns)
 }
 
 // A part of a counter, by numbers alone: where its inputs begin among the counter's and how many they are, its first variable, and
-// the number of a clause in it.
+// the number of a clause in it. That they are 64 at most is said of each function and is no part of a type: it would be proved
+// anew for each half.
 #[derive(Clone, Copy)]
 struct Node {
     from: usize,
@@ -101,8 +100,9 @@ struct Node {
 }
 
 // The node that a clause belongs to, found by the halves. It goes by numbers alone, so that a search costs no more than its steps. The
-// node is narrowed where the caller keeps it: calls that hand one back take a quarter longer.
-fn node_by_halves(tables: Tables<'_>, node: &mut Node)
+// node is narrowed where the caller keeps it: where calls hand one back, each level keeps a frame, and a derivation takes an eighth
+// longer.
+fn node_by_halves(node: &mut Node)
     requires { (node.old.size ≤ 64) × (node.old.from + node.old.size ≤ 64)
         × (node.old.start + variables_of node.old.size ≤ 1000384) }
     ensures { Found node.old node.new }
@@ -118,7 +118,7 @@ fn node_by_halves(tables: Tables<'_>, node: &mut Node)
         return;
     }
     let below = whole.number - own;
-    let left = tables.clauses_of(half);
+    let left = tables::clauses_of(half);
     if below < left {
         *node = Node {
             size: half,
@@ -126,19 +126,19 @@ fn node_by_halves(tables: Tables<'_>, node: &mut Node)
             number: below,
             ..whole
         };
-        node_by_halves(tables, node);
+        node_by_halves(node);
         return;
     }
     *node = Node {
         from: whole.from + half,
         size: others,
-        start: whole.start + whole.size + tables.variables_of(half),
+        start: whole.start + whole.size + tables::variables_of(half),
         number: below - left,
     };
-    node_by_halves(tables, node);
+    node_by_halves(node);
 }
 
-fn clause_by_halves(tables: Tables<'_>, inputs: &[i32], start: usize, number: usize) -> Three
+fn clause_by_halves(inputs: &[i32], start: usize, number: usize) -> Three
     requires { (length inputs.now ≤ 64) × (start + variables_of (length inputs.now) ≤ 1000384) }
     ensures { Holds result (clause_at (counter_of inputs.now) start number) }
 {
@@ -148,27 +148,20 @@ fn clause_by_halves(tables: Tables<'_>, inputs: &[i32], start: usize, number: us
         start,
         number,
     };
-    node_by_halves(tables, &mut node);
+    node_by_halves(&mut node);
     let part = &inputs[node.from..node.from + node.size];
     if part.len() < 2 {
         return NO_CLAUSE;
     }
-    node_clause(tables, part, node.start, node.number)
+    node_clause(part, node.start, node.number)
 }
 
-// Clause `number` of the counter over the inputs' variables, whose own variables are numbered from `start` on. The tables are named
-// here, once a clause, and lent to the search.
+// Clause `number` of the counter over the inputs' variables, whose own variables are numbered from `start` on.
 pub fn counter_clause(inputs: &[i32], start: usize, number: usize) -> Three
     ensures { Holds result (numbered inputs.now start number) }
 {
     if 64 < inputs.len() || 1000000 < start {
         return NO_CLAUSE;
     }
-    let variables = tables::VARIABLES;
-    let clauses = tables::CLAUSES;
-    let tables = Tables {
-        variables: &variables,
-        clauses: &clauses,
-    };
-    clause_by_halves(tables, inputs, start, number)
+    clause_by_halves(inputs, start, number)
 }

@@ -123,7 +123,8 @@ pub fn misfit_of(
     if MOST_HINTS < hints.len() || allowed < clause.len() {
         return Some(1);
     }
-    // No list that grows: nothing here takes memory from a heap.
+    // No list that grows: nothing here takes memory from a heap. And no struct of trail and count: what fills the trail answers the
+    // count, as at `marks::assign_next`.
     let mut trail: [i32; 512] = [0; 512];
     let assumed = assume(values, clause, &mut trail);
     let followed = follow_hints(values, clauses, hints, &mut trail, assumed);

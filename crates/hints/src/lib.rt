@@ -16,7 +16,7 @@ ghost use Rattle.hints.specs.Lent.{held_in};
 
 use clauses::FamilyRooms;
 use names::Hint;
-use paper::{MOST_WISHES, Reading, Tally, Width};
+use paper::{FIRST_COUNTER, FIRST_WISH, MOST_WISHES, Reading, Tally, Width};
 use values::ValueRooms;
 
 // What a derivation is given to read and does not write.
@@ -59,14 +59,14 @@ fn read_wish(values: ValueRooms, wishes: &FamilyRooms, count: u32, number: u32) 
         return Reading::StillOpen;
     }
     let reading = readings::read(values, wishes.clause(count, number));
-    readings::read_one(reading, values, (paper::FIRST_WISH + number) as i32)
+    readings::read_one(reading, values, (FIRST_WISH + number) as i32)
 }
 
 // Any two numbers of 32 bits will do: their product leaves room in 64.
 fn counter_start(width: Width, counter: u32) -> usize
     ensures { result ≡ counter_start width counter }
 {
-    paper::FIRST_COUNTER as usize + width.stride as usize * counter as usize
+    FIRST_COUNTER as usize + width.stride as usize * counter as usize
 }
 
 // A clause of a counter is made where it is read: no counter's clauses are stored.

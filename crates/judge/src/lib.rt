@@ -80,7 +80,7 @@ fn compared(cost: u64, bound: u32) -> Answer
     match u32::try_from(cost) {
         Ok(cost) if cost == bound => Answer::Best(cost, bound),
         Ok(cost) => Answer::Counted(cost, bound),
-        Err(_) => Answer::Refused(Reason::OutOfTurn.number()),
+        Err(_) => Answer::from(Reason::OutOfTurn),
     }
 }
 
@@ -98,7 +98,7 @@ pub fn judge(
         → result ≡ answer s (judgeStep (arranged arrangement.now)) }
 {
     if tally.variables == 0 {
-        return Answer::Refused(Reason::OutOfTurn.number());
+        return Answer::from(Reason::OutOfTurn);
     }
     if let Some(number) = broken_rule(arrangement, rules, tally.rules) {
         return Answer::Broken(number);

@@ -11,7 +11,8 @@ use paper::Numbers;
 // What the longest line takes.
 const LINE_ROOM: usize = 65;
 
-// The call stack holds the digits that come later, so that no digit is moved or reversed.
+// The digits are put by hand and not by `Display`, since the contract says what every byte of the lent buffer is. The call stack holds
+// those that come later, so that no digit is moved or reversed.
 fn put_number(out: &mut [u8], at: usize, number: u64) -> usize
     requires { at + length (decimal number) ≤ length out.old }
     ensures { Written out.old at (decimal number) result out.new }

@@ -6,15 +6,14 @@ use mathlib.Core.Logic.{◌≢◌}
 use Prim.Native.Nat.{ℕ, zero, suc, ◌+◌, ◌-◌, ◌<◌, ◌≤◌}
 use native.Mathlib.Numerals.{add-one}
 use native.Mathlib.Omega.{arith}
-use lib.Dec.{eqb, leb}
+use lib.Dec.{eqb}
 use lib.IntN.{ℤ, pos}
 use lib.ListN.{length, take, drop, get_or, get_or-append, set, replicate, length-set, length-replicate}
 use lib.Seq.{drop-cons, get_or-set_same, get_or-set_other}
 use Rattle.std.specs.List.{slice_range}
 use Rattle.std.proofs.lemmas.List.{length-take-le, take-append-drop, length_push, get_or_push}
-use borrow.Author.Tests.{eqb-true, eqb-false, ltb-true, lt-ltb, leb-true}
+use borrow.Author.Tests.{eqb-true, eqb-false, ltb-true, lt-ltb}
 use Rattle.paper.specs.Clauses.{Clause, variable, every, has_variable, variable_twice}
-use Rattle.paper.specs.Session.{problem_literal}
 use Rattle.paper.specs.Derivation.{unassigned, assign}
 use Rattle.paper.proofs.Lists.{and_split, every-mono}
 use Rattle.clauses.proofs.Lists.{get_d_same}
@@ -131,17 +130,10 @@ zeros_unmarked size (l ∷ c) = rw (get_d_same {A = ℕ} 0 size (variable l), ze
 pub fresh_zeros : (size : ℕ) (c : Clause) → every (placed size) c ≡ true → fresh (replicate size 0) c ≡ not (variable_twice c)
 fresh_zeros size c e = rw (fresh_is (replicate size 0) c (rw (length-replicate {A = ℕ} size 0) e), zeros_unmarked size c)
 
--- The problem's variables have a place in a room that is larger than their number.
-problem_placed : (variables size : ℕ) (c : Clause) → variables < size → every (problem_literal variables) c ≡ true
-    → every (placed size) c ≡ true
-problem_placed variables size c h =
-    every-mono (problem_literal variables) (placed size) c
-    (λ l e.
-    let parts = and_split (leb 1 (variable l)) (leb (variable l) variables) e in
-    lt-ltb (variable l) size (omega (arith, leb-true (variable l) variables parts.1)))
-
--- What is found of a clause over the problem's variables in a room of zeros.
-pub problem_twice : (variables size : ℕ) (room : List ℕ) (c : Clause) (found : Bool) → found ≡ fresh room c
-    → room ≡ replicate size 0 → variables < size → every (problem_literal variables) c ≡ true → variable_twice c ≡ not found
-problem_twice variables size room c found e zeros h all =
-    rw (e, zeros, fresh_zeros size c (problem_placed variables size c h all)) (sym (not-not (variable_twice c)))
+-- What is found of a clause in a room of zeros with a place for each variable that is named.
+pub twice_told : (size : ℕ) (room : List ℕ) (named : ℤ → Bool) (c : Clause) (found : Bool) → found ≡ fresh room c
+    → room ≡ replicate size 0 → ((l : ℤ) → named l ≡ true → variable l < size) → every named c ≡ true
+    → variable_twice c ≡ not found
+twice_told size room named c found e zeros within all =
+    let places = every-mono named (placed size) c (λ l n. lt-ltb (variable l) size (within l n)) all in
+    rw (e, zeros, fresh_zeros size c places) (sym (not-not (variable_twice c)))

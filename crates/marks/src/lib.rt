@@ -2,8 +2,9 @@
 // is marked or assigned is taken back from its end, so that the rooms are left as they were.
 #![tactic(auto)]
 
-ghost use Rattle.std.specs.Prelude.{◌≡◌, ℕ, ◌+◌, ◌≤◌, ◌<◌, length, set, replicate};
+ghost use Rattle.std.specs.Prelude.{◌≡◌, Bool, true, ℕ, ◌+◌, ◌≤◌, ◌<◌, ℤ, length, set, replicate};
 ghost use Rattle.paper.specs.declared.Width.{Width};
+ghost use Rattle.paper.specs.Clauses.{variable, every};
 ghost use Rattle.paper.specs.Session.{problem_literal};
 ghost use Rattle.paper.specs.Derivation.{unassigned, assign as assignment};
 ghost use Rattle.paper.specs.Steps.{admission};
@@ -89,7 +90,32 @@ pub fn distinct(clause: &[i32], values: &mut ValueRoomsMut) -> bool
     count == clause.len()
 }
 
-// The lowest of the three refusals that applies to a clause over the problem's variables, if one does.
+// The lowest of the three refusals that applies to a clause, if one does. Whether each literal names something is told: there is more
+// than one test for that.
+pub fn clause_refusal(
+    most: usize,
+    all_named: bool,
+    clause: &[i32],
+    values: &mut ValueRoomsMut,
+) -> Result<(), Reason>
+    ensures kept { KeptValues values.old values.new }
+    ensures answer { (size : ℕ) (u : Width) (named : ℤ → Bool) → bytes values.old ≡ replicate size 0
+        → ((l : ℤ) → named l ≡ true → variable l < size) → u.literals ≡ most → all_named ≡ every named clause.now
+        → refusal_number result ≡ lowest (admission u named clause.now) }
+{
+    if most < clause.len() {
+        return Err(Reason::TooManyLiterals);
+    }
+    if !all_named {
+        return Err(Reason::StrangeLiteral);
+    }
+    if !distinct(clause, values) {
+        return Err(Reason::VariableTwice);
+    }
+    Ok(())
+}
+
+// The same for a clause over the problem's variables.
 pub fn problem_refusal(
     most: usize,
     variables: u32,
@@ -101,14 +127,6 @@ pub fn problem_refusal(
         → u.literals ≡ most
         → refusal_number result ≡ lowest (admission u (problem_literal variables) clause.now) }
 {
-    if most < clause.len() {
-        return Err(Reason::TooManyLiterals);
-    }
-    if !variables::all_problem(variables, clause) {
-        return Err(Reason::StrangeLiteral);
-    }
-    if !distinct(clause, values) {
-        return Err(Reason::VariableTwice);
-    }
-    Ok(())
+    let all_named = variables::all_problem(variables, clause);
+    clause_refusal(most, all_named, clause, values)
 }

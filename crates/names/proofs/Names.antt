@@ -1,7 +1,7 @@
 -- What a derived clause and its hints may name, by what the code asks: a counter variable by dividing, a counter's size by its
--- room, a clause or a list of hints element by element, and a variable that stands twice by marks.
+-- room, a clause or a list of hints element by element; and each variable that is named has a place in rooms of zeros.
 use mathlib.Core.Path.{◌≡◌, refl, sym, ◌∙◌, ap}
-use mathlib.Core.Bool.{Bool, true, false, not, ◌&&◌, or-false, not-not}
+use mathlib.Core.Bool.{Bool, true, false, ◌&&◌, or-false}
 use mathlib.Core.List.{List, [], ◌∷◌, map}
 use Prim.Native.Nat.{ℕ, zero, suc, ◌+◌, ◌-◌, ◌<◌, ◌≤◌, ◌/◌, ◌%◌}
 use native.Mathlib.Omega.{arith}
@@ -11,10 +11,10 @@ use lib.IntN.{ℤ, pos}
 use lib.ListN.{length, drop, get_or, length-map, get_or-map}
 use lib.Seq.{drop-length}
 use Rattle.std.proofs.lemmas.Bool.Decides.{nat_tests}
-use borrow.Author.Tests.{ltb-true, ltb-false, lt-ltb, le-ltb, le-leb, lt-leb}
+use borrow.Author.Tests.{ltb-true, ltb-false, le-ltb, le-leb, lt-leb}
 use Rattle.paper.specs.Sizes.{first_wish, wish_variable, first_counter}
 use Rattle.paper.specs.declared.Width.{Width}
-use Rattle.paper.specs.Clauses.{Clause, variable, every, variable_twice}
+use Rattle.paper.specs.Clauses.{variable, every}
 use Rattle.paper.specs.Counters.{Tree, tree_of, variables}
 use Rattle.paper.specs.Session.{Counter, Session, no_counter, problem_literal, named_literal, in_counters}
 use Rattle.paper.specs.Runs.{Reached}
@@ -23,11 +23,7 @@ use Rattle.paper.proofs.Truths.{Ordered}
 use Rattle.paper.proofs.Bounds.{named_below}
 use Rattle.paper.proofs.Costs.{reached_sound}
 use Rattle.paper.proofs.Reach.{reached_narrow}
-use Rattle.paper.proofs.Lists.{every-mono}
 use Rattle.variables.proofs.Every.{every_from}
-use Rattle.values.specs.Values.{placed}
-use Rattle.marks.specs.Marks.{fresh}
-use Rattle.marks.proofs.Marks.{fresh_zeros}
 use Rattle.rooms.specs.Held.{Zeros, inputs_of}
 use Rattle.names.specs.Names.{in_counter}
 
@@ -141,16 +137,13 @@ module _ {A : Type 0} (p : A → Bool) (xs : List A) (i : ℕ) (left : every p (
   pub ended : i ≡ length xs → true ≡ every p xs
   ended h = rw (h, drop-length xs) at left
 
--- ── Variables that stand twice ──
+-- ── Places for what is named ──
 
--- What is found in rooms of zeros of a clause whose literals are named.
-pub named_twice : (s : Session) → Reached s → (room : List ℕ) (c : Clause) (found : Bool) → found ≡ fresh room c
-    → Zeros s.sheet.width room → every (named_literal s.sheet s.work) c ≡ true → variable_twice c ≡ not found
-named_twice s r room c found e zeros all =
+-- The variables that are named have a place in rooms of zeros.
+pub named_within : (s : Session) → Reached s → (room : List ℕ) (zeros : Zeros s.sheet.width room) (l : ℤ)
+    → named_literal s.sheet s.work l ≡ true → variable l < zeros.size
+named_within s r room zeros l n =
     let k = reached_sound s r in
     let few = k.few in
-    let in-room : (l : ℤ) → named_literal s.sheet s.work l ≡ true → placed zeros.size l ≡ true
-    = λ l n.
     let b = named_below s.sheet s.work k.fits k.small (omega arith) k.few_counters k.ordered l n in
-    lt-ltb (variable l) zeros.size (omega (arith, zeros.enough, ltb-true (variable l) _ b)) in
-    rw (e, zeros.are, fresh_zeros zeros.size c (every-mono _ _ c in-room all)) (sym (not-not (variable_twice c)))
+    omega (arith, zeros.enough, ltb-true (variable l) _ b)

@@ -61,6 +61,7 @@ impl From<u64> for Hint {
 }
 
 // What a session knows names in: how wide it is, how many there are of each family, and the room that tells each counter's size.
+// The ends stand alone: the sizes of the counters tell what is named, so a caller need not have their inputs.
 #[derive(Clone, Copy)]
 pub struct Known<'a> {
     pub width: Width,
@@ -119,16 +120,8 @@ impl Known<'_> {
             → Zeros s.sheet.width (bytes values.old)
             → refusal_number result ≡ lowest (admission s.sheet.width (named_literal s.sheet s.work) clause.now) }
     {
-        if (self.width.literals as usize) < clause.len() {
-            return Err(Reason::TooManyLiterals);
-        }
-        if !self.all_named(clause) {
-            return Err(Reason::StrangeLiteral);
-        }
-        if !marks::distinct(clause, values) {
-            return Err(Reason::VariableTwice);
-        }
-        Ok(())
+        let all_named = self.all_named(clause);
+        marks::clause_refusal(self.width.literals as usize, all_named, clause, values)
     }
 
     fn hint_named(self, hint: Hint) -> bool

@@ -33,7 +33,8 @@ pub fn refused(tally: Tally, number: u32) -> Outcome
     }
 }
 
-// A refusal for a reason.
+// A refusal for a reason. A step hands it back where it refuses, and not by `?`: its answer is an outcome and no `Result`, and a function
+// with one would need the step's whole contract once more.
 pub fn refuse(tally: Tally, reason: Reason) -> Outcome
     ensures { result ≡ record { tally = tally; answer = Answer.Refused (reason_number reason) } }
 {

@@ -5,9 +5,12 @@
 #![tactic(auto)]
 
 ghost use Rattle.std.specs.Prelude.{◌≡◌, ◌++◌, ◌+◌, ◌*◌, ◌-◌, ◌≤◌, leb, length, take, replicate};
+ghost use Rattle.paper.specs.Kinds.{kind_number};
 ghost use Rattle.paper.specs.Texts.{bytes_for, bits_of, literal_bytes, record_bytes, open_record, clause_record};
 ghost use Rattle.lines.specs.Lines.{Written};
 ghost use Rattle.output.specs.Puts.{Put, rule_record, wish_record};
+
+use paper::Kind;
 
 // Asked once for a record, before its first store; by division, so that no number of literals makes it wrap.
 fn has_place(room: usize, at: usize, bytes: usize, literals: usize) -> bool
@@ -27,12 +30,12 @@ fn put_four(out: &mut [u8], at: usize, number: u64) -> usize
 }
 
 // What a record begins with: the length of what follows it, and the kind, which is one byte and a 0.
-fn put_start(out: &mut [u8], at: usize, size: u64, kind: u8) -> usize
+fn put_start(out: &mut [u8], at: usize, size: u64, kind: Kind) -> usize
     requires { at + 6 ≤ length out.old }
-    ensures { Written out.old at (bytes_for 4 size ++ bytes_for 2 kind) result out.new }
+    ensures { Written out.old at (bytes_for 4 size ++ bytes_for 2 (kind_number kind)) result out.new }
 {
     let place = put_four(out, at, size);
-    out[place] = kind;
+    out[place] = kind.number() as u8;
     out[place + 1] = 0;
     place + 2
 }
@@ -54,7 +57,7 @@ pub fn put_open(out: &mut [u8], at: usize, variables: u32) -> usize
     if !has_place(out.len(), at, 10, 0) {
         return out.len() + 1;
     }
-    let place = put_start(out, at, 6, 1);
+    let place = put_start(out, at, 6, Kind::Open);
     put_four(out, place, u64::from(variables))
 }
 
@@ -64,7 +67,7 @@ fn put_rule(out: &mut [u8], at: usize, literals: &[i32]) -> usize
     if !has_place(out.len(), at, 6, literals.len()) {
         return out.len() + 1;
     }
-    let place = put_start(out, at, 2 + 4 * literals.len() as u64, 2);
+    let place = put_start(out, at, 2 + 4 * literals.len() as u64, Kind::Rule);
     put_literals(out, place, literals)
 }
 
@@ -74,7 +77,7 @@ fn put_wish(out: &mut [u8], at: usize, weight: u32, literals: &[i32]) -> usize
     if !has_place(out.len(), at, 10, literals.len()) {
         return out.len() + 1;
     }
-    let place = put_start(out, at, 6 + 4 * literals.len() as u64, 3);
+    let place = put_start(out, at, 6 + 4 * literals.len() as u64, Kind::Wish);
     let behind = put_four(out, place, u64::from(weight));
     put_literals(out, behind, literals)
 }

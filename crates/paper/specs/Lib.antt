@@ -7,6 +7,7 @@ pub mod Truth
 pub mod Derivation
 pub mod Answers
 pub mod Reasons
+pub mod Kinds
 pub mod Steps
 pub mod Runs
 pub mod Records

@@ -4,6 +4,11 @@
 ghost use Rattle.std.specs.Prelude.{◌≡◌};
 ghost use Rattle.paper.specs.Answers.{numbers};
 ghost use Rattle.paper.specs.Reasons.{reason_number};
+ghost use Rattle.paper.specs.declared.Answer.TheVariants.{Refused};
+
+mod kind;
+
+pub use kind::Kind;
 
 // The variable of wish 0; the others follow it.
 pub const FIRST_WISH: u32 = 2001;
@@ -103,6 +108,14 @@ impl Reason {
     }
 }
 
+impl From<Reason> for Answer {
+    ghost from_gives = { λ reason given. given ≡ Refused (reason_number reason) };
+
+    fn from(reason: Reason) -> Answer {
+        Answer::Refused(reason.number())
+    }
+}
+
 // What an answer gives back: its number, and two values.
 #[repr(C)]
 #[derive(Clone, Copy)]
@@ -124,7 +137,7 @@ impl From<Answer> for Numbers {
             Answer::Core(bound, weight) => (0, bound, weight),
             Answer::Best(cost, bound) => (1, cost, bound),
             Answer::Counted(cost, bound) => (0, cost, bound),
-            Answer::Broken(rule) => (24, rule, 0),
+            Answer::Broken(rule) => (Reason::BrokenRule.number(), rule, 0),
             Answer::Refused(number) => (number, 0, 0),
         };
         Numbers {

@@ -149,6 +149,7 @@ fn first<T: Item>(bytes: &[u8]) -> T
     T::read(&padded)
 }
 
+// This, `number_of_four` and `number_of_eight` are three names over one body, `first`, since docs/PROMISES.md names each.
 pub fn number_of_two(bytes: &[u8], at: usize) -> u32
     ensures { (result ≡ number (take 2 (drop at bytes.now))) × (result < 65536) }
 {
@@ -200,6 +201,7 @@ fn copy_items<T: Item>(bytes: &[u8], items: &mut [T])
     }
 }
 
+// This and `copy_hints` are two names for one body, since docs/PROMISES.md names both.
 pub fn copy_literals(bytes: &[u8], at: usize, clause: &mut [i32])
     ensures { clause.new ≡ literals (length clause.old) (drop at bytes.now) }
 {

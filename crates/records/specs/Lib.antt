@@ -1,4 +1,3 @@
 -- What the contracts of this crate cite besides the paper.
 pub mod Parts
-pub mod Kinds
 pub mod Lent

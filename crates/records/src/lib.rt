@@ -9,12 +9,12 @@ ghost use Rattle.paper.specs.Session.{Session, tally_of};
 ghost use Rattle.paper.specs.Steps.{rule, opened, next, outcome};
 ghost use Rattle.paper.specs.Runs.{Reached};
 ghost use Rattle.paper.specs.Records.{literals as literals_in, record_answer, record_next, record_outcome};
+ghost use Rattle.paper.specs.Kinds.{kind_number};
 ghost use Rattle.clauses.specs.Lent.{SameFamily};
 ghost use Rattle.values.specs.Lent.{bytes, KeptValues};
 ghost use Rattle.weights.specs.Lent.{SameWeights};
 ghost use Rattle.hints.specs.Hinted.{HeldClauses};
 ghost use Rattle.hints.specs.Lent.{given_with};
-ghost use Rattle.records.specs.Kinds.{kind_number};
 ghost use Rattle.records.specs.Lent.{lent};
 ghost use Rattle.records.specs.Parts.{wish_in, derive_in};
 ghost use Rattle.rooms.specs.Held.{Rooms as RoomLists, HeldRules, HeldWishes, HeldDerived, HeldCounters, HeldWeights, Zeros};
@@ -23,14 +23,10 @@ ghost use Rattle.rooms.specs.Lent.{SameRooms, KeptWork, Keeps};
 
 use clauses::{FamilyRooms, FamilyRoomsMut};
 use hints::Given;
-use paper::{Answer, Outcome, Reason, Tally};
+use paper::{Answer, Kind, Outcome, Reason, Tally};
 use rooms::RoomsMut;
 use values::ValueRoomsMut;
 use weights::WeightRoomsMut;
-
-mod kind;
-
-pub use kind::Kind;
 
 fn open_record(tally: Tally, payload: &[u8]) -> Outcome
     ensures { (s : Session) → Reached s → tally ≡ tally_of s
@@ -245,6 +241,8 @@ fn core_record(
     cores::core(tally, derived, counters, weights, number)
 }
 
+// The wishes' weights go apart from the two rooms of the wishes: what reads a wish's clause alone, as a hint's reader and the weighing
+// do, has no weights.
 fn judge_record(
     tally: Tally,
     rules: FamilyRooms,
@@ -258,7 +256,7 @@ fn judge_record(
         → result ≡ record_answer s (record { kind = 6; payload = payload.now }) }
 {
     if !payload::arrangement_has_form(tally.variables, payload) {
-        return Answer::Refused(Reason::WrongForm.number());
+        return Answer::from(Reason::WrongForm);
     }
     judge::judge(tally, rules, wishes, wish_weights, payload)
 }
@@ -416,7 +414,8 @@ pub fn answer_record<'a>(
     )
 }
 
-// One record, over the rooms as one value.
+// One record, over the rooms as one value. Kind and payload stand apart, since each is needed by itself at once: a struct of both would
+// be made only to be taken apart.
 pub fn answer(tally: Tally, rooms: &mut RoomsMut, kind: u32, payload: &[u8]) -> Outcome
     ensures same { SameRooms rooms.old rooms.new }
     ensures kept { KeptWork rooms.old rooms.new }

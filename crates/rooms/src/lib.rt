@@ -1,4 +1,5 @@
-// The rooms of a session, and what they hold of it. The values and the counts of a session are no part of them.
+// The rooms of a session, owned and lent, and what they hold of it. The value rooms hold nothing of it, and its counts stand in the
+// tally.
 #![tactic(auto)]
 
 ghost use Rattle.std.specs.Prelude.{◌≡◌};
@@ -30,7 +31,8 @@ pub struct Rooms {
     pub high: [u8; 65536],
 }
 
-// The same rooms as they are lent, each by a reference of its own, so that a caller may keep them wherever it likes.
+// The same rooms as they are lent, each by a reference of its own, so that a caller may keep them wherever it likes. No method of
+// `Rooms` lends them all: whoever called it would not know what was written through it.
 #[derive(Drop)]
 pub struct RoomsMut<'a> {
     pub rules: &'a mut [i32; 16384],

@@ -20,6 +20,7 @@ pub struct Numbered {
     pub numbers: Numbers,
 }
 
+// Kind and payload stand apart, as in C and as `records` needs them.
 pub fn answer(tally: &mut Tally, rooms: &mut RoomsMut, kind: u32, payload: &[u8]) -> Answer
     ensures same { SameRooms rooms.old rooms.new }
     ensures kept { KeptWork rooms.old rooms.new }

@@ -14,7 +14,7 @@ pub struct ValueRooms<'a> {
     pub high: &'a [u8],
 }
 
-// The two rooms to write.
+// The two rooms to write. No generic pair of rooms, for its fields would have no names: see `clauses::FamilyRoomsMut`.
 #[derive(Drop)]
 pub struct ValueRoomsMut<'a> {
     pub low: &'a mut [u8],
@@ -38,14 +38,10 @@ impl ValueRooms<'_> {
         ensures { result ≡ get_or (bytes_in self.entry) variable 0 }
     {
         let place = variable as usize;
-        if place < self.low.len() {
-            return self.low[place];
+        match self.low.get(place) {
+            Some(byte) => *byte,
+            None => self.high.get(place - self.low.len()).copied().unwrap_or(0),
         }
-        let rest = place - self.low.len();
-        if rest < self.high.len() {
-            return self.high[rest];
-        }
-        0
     }
 
     // The truth of a literal, none where it is unassigned.
@@ -79,11 +75,8 @@ impl ValueRoomsMut<'_> {
         let place = variable as usize;
         if place < self.low.len() {
             self.low[place] = byte;
-            return;
-        }
-        let rest = place - self.low.len();
-        if rest < self.high.len() {
-            self.high[rest] = byte;
+        } else {
+            slices::store(self.high, place - self.low.len(), byte);
         }
     }
 

@@ -2,15 +2,18 @@
 use mathlib.Core.Path.{◌≡◌, sym, ap, ◌∙◌}
 use mathlib.Core.Bool.{Bool, true, false, not, ◌&&◌}
 use mathlib.Core.List.{List, [], ◌∷◌, ◌++◌}
-use mathlib.Core.Logic.{◌≢◌}
-use Prim.Native.Nat.{ℕ, ◌-◌}
+use mathlib.Core.Logic.{◌≢◌, ◌⊎◌}
+use Prim.Native.Nat.{ℕ, ◌+◌, ◌-◌, ◌<◌, ◌≤◌}
 use native.Mathlib.Omega.{arith}
 use lib.Dec.{eqb, leb}
 use lib.IntN.{ℤ}
 use lib.ListN.{length, take, drop}
 use lib.Seq.{sets, length-sets}
+use denote.Ref.{Bor}
 use borrow.Author.Tests.{lt-ltb}
-use Rattle.std.specs.Prelude.{Some, Result as Checked, Ok, Err, IsErrAnd}
+use Rattle.std.specs.Prelude.{Option, Some, None, Result as Checked, Ok, Err, IsErrAnd}
+use Rattle.std.specs.List.{slice_range}
+use Rattle.std.specs.Option.{MatchOption}
 use Rattle.std.proofs.lemmas.Option.{cond_some}
 use Rattle.paper.specs.declared.Header.{Header}
 use Rattle.paper.specs.Sizes.{narrow, most_weight}
@@ -26,7 +29,6 @@ use Rattle.numerals.specs.Numerals.{numeral_of}
 use Rattle.literals.specs.Reading.{literals_at}
 use Rattle.literals.proofs.Reading.{front_kept}
 use Rattle.literals.proofs.Paper.{whole_clause_at, broken_clause_at}
-use Rattle.wcnf.specs.Rooms.{Keeps}
 use Rattle.wcnf.specs.declared.Step.{Step}
 use Rattle.wcnf.specs.declared.Fault.{Fault}
 use Rattle.wcnf.specs.Steps.{clause_from, OneClause, Came}
@@ -41,10 +43,19 @@ module _ (h : Header) (weight : ℕ) (c : Clause) where
       → r ≡ clause_refusal h weight c
   admitted r e found = rw e found
 
-pub keeps : (room room' : List ℤ) (count : ℕ) (c : Clause) → count ≡ length c → room' ≡ sets room 0 c → Keeps room' count c
-keeps room room' count c e s =
+-- What the room gives of the literals: the clause, or none where it has no place for each.
+pub keeps : (front : Option (Bor (List ℤ))) (room room' : List ℤ) (count : ℕ) (c : Clause)
+    → length room ≡ 64 → count ≡ length c → room' ≡ sets room 0 c
+    → MatchOption front ((count < 0) ⊎ (length room' < count))
+    (λ x. (0 ≤ count) × (count ≤ length room') × (x.now ≡ slice_range room' 0 count) × (length x.now + 0 ≡ count))
+    → MatchOption front (64 < length c) (λ x. x.now ≡ c)
+keeps None room room' count c size e s there =
     let same : length room' ≡ length room = ap length s ∙ length-sets room 0 c in
-    record { counted = e; kept = λ h. rw (e, s) (front_kept room c (omega (arith, same, e, h))) }
+    grind arith
+keeps (Some x) room room' count c size e s there =
+    let same : length room' ≡ length room = ap length s ∙ length-sets room 0 c in
+    let all : count - 0 ≡ length c = omega (arith, e) in
+    there.2 ∙ rw (all, s) (front_kept room c (omega (arith, same, e, there.1)))
 
 -- ── One clause ──
 
@@ -59,47 +70,42 @@ module _ (h : Header) (at weight : ℕ) (c : Clause) (rest : Result) where
 abbrev weight_word : List ℕ → ℕ → ℕ → List ℕ
 weight_word text start end = take (end - start) (drop start text)
 
-module _ (text : List ℕ) (h : Header) (start end : ℕ) where
+-- The weight's word reads as a number.
+module _ (text : List ℕ) (h : Header) (start end weight : ℕ) (reads : Some weight ≡ numeral_of most_number (weight_word text start end)) where
+  is : (decimal_up_to most_number (weight_word text start end) ≡ true) × (value (weight_word text start end) ≡ weight)
+  is = cond_some (decimal_up_to most_number (weight_word text start end)) (value (weight_word text start end)) weight (sym reads)
+
   abbrev came : List Record → Result
   came done = read_on h (length text) between done (clause_from text start end)
 
-  pub no_literals : decimal_up_to most_number (weight_word text start end) ≡ true → ((literals_at text end).number ≡ 0 → ⊥)
+  pub no_literals : ((literals_at text end).number ≡ 0 → ⊥)
       → (done : List Record) → came done ≡ fault (literals_at text end).number (literals_at text end).position
-  no_literals fits n done = rw fits (broken_clause_at text end h start (value (weight_word text start end)) done n)
+  no_literals n done = rw (is.0, is.1) (broken_clause_at text end h start weight done n)
 
-  pub not_allowed : decimal_up_to most_number (weight_word text start end) ≡ true → (literals_at text end).number ≡ 0
-      → (n : ℕ) → n ≡ clause_refusal h (value (weight_word text start end)) (literals_at text end).literals → n ≢ 0
+  pub not_allowed : (literals_at text end).number ≡ 0 → (n : ℕ) → n ≡ clause_refusal h weight (literals_at text end).literals → n ≢ 0
       → (done : List Record) → came done ≡ fault n start
-  not_allowed fits e n is some done =
-      rw fits (whole_clause_at text end h start (value (weight_word text start end)) done e
-      ∙ complete_bad h start (value (weight_word text start end)) (literals_at text end).literals _ n is some)
+  not_allowed e n refused some done =
+      rw (is.0, is.1) (whole_clause_at text end h start weight done e
+      ∙ complete_bad h start weight (literals_at text end).literals _ n refused some)
 
-  pub allowed : decimal_up_to most_number (weight_word text start end) ≡ true → (literals_at text end).number ≡ 0
-      → 0 ≡ clause_refusal h (value (weight_word text start end)) (literals_at text end).literals
+  pub allowed : (literals_at text end).number ≡ 0 → 0 ≡ clause_refusal h weight (literals_at text end).literals
       → (next : ℕ) → words_at text next ≡ (literals_at text end).rest
       → (done : List Record) → came done
-      ≡ read_on h (length text) between
-      (done ++ (clause_record h.top (value (weight_word text start end)) (literals_at text end).literals ∷ [])) (words_at text next)
-  allowed fits e is next on done =
-      rw (fits, on) (whole_clause_at text end h start (value (weight_word text start end)) done e
-      ∙ complete_good h start (value (weight_word text start end)) (literals_at text end).literals _ is)
-
--- What the weight's word reads as.
-pub weight_is : (text : List ℕ) (start end n : ℕ) → Some n ≡ numeral_of most_number (weight_word text start end)
-    → (decimal_up_to most_number (weight_word text start end) ≡ true) × (value (weight_word text start end) ≡ n)
-weight_is text start end n e =
-    cond_some (decimal_up_to most_number (weight_word text start end)) (value (weight_word text start end)) n (sym e)
+      ≡ read_on h (length text) between (done ++ (clause_record h.top weight (literals_at text end).literals ∷ [])) (words_at text next)
+  allowed e fine next on done =
+      rw (is.0, is.1, on) (whole_clause_at text end h start weight done e
+      ∙ complete_good h start weight (literals_at text end).literals _ fine)
 
 -- What a fault that is handed up makes of a reading.
-pub one_fault : (text : List ℕ) (h : Header) (start end : ℕ) (room : List ℕ) (at : ℕ) (r : Checked Step Fault) (room' : List ℕ) (f : Fault)
+pub one_fault : {text : List ℕ} {h : Header} {start end : ℕ} {room : List ℕ} {at : ℕ} {r : Checked Step Fault} {room' : List ℕ} (f : Fault)
     → IsErrAnd r (λ g. g ≡ f) → length room' ≡ length room
     → ((done : List Record) → read_on h (length text) between done (clause_from text start end) ≡ fault (reason_number f.reason) f.position)
     → OneClause text h start end room at r room'
-one_fault text h start end room at (Ok step) room' f e size is = absurd e
-one_fault text h start end room at (Err g) room' f e size is = record { size = size; read = λ done. rw e (is done) }
+one_fault {r = Ok step} f e size goes = absurd e
+one_fault {r = Err g} f e size goes = record { size = size; read = λ done. rw e (goes done) }
 
-pub came_fault : (result : Result) (room : List ℕ) (r : Checked ℕ Fault) (room' : List ℕ) (f : Fault)
+pub came_fault : {result : Result} {room : List ℕ} {r : Checked ℕ Fault} {room' : List ℕ} (f : Fault)
     → IsErrAnd r (λ g. g ≡ f) → length room' ≡ length room → result ≡ fault (reason_number f.reason) f.position
     → Came result room r room'
-came_fault result room (Ok end) room' f e size is = absurd e
-came_fault result room (Err g) room' f e size is = record { size = size; read = rw e is }
+came_fault {r = Ok end} f e size goes = absurd e
+came_fault {r = Err g} f e size goes = record { size = size; read = rw e goes }

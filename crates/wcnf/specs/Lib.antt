@@ -1,3 +1,2 @@
 -- What the contracts of this crate cite besides the paper.
-pub mod Rooms
 pub mod Steps

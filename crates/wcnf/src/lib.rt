@@ -2,17 +2,18 @@
 // proportion to the text and to the room, whose bytes behind the records are cleared.
 #![tactic(auto)]
 
-ghost use Rattle.std.specs.Prelude.{◌≡◌, not, ◌&&◌, [], ◌∷◌, ℕ, ◌≤◌, ◌<◌, eqb, leb, length, replicate, IsOk};
+ghost use Rattle.std.specs.Prelude.{◌≡◌, not, ◌&&◌, [], ◌∷◌, ℕ, ◌≤◌, ◌<◌, eqb, leb, length, replicate, IsOk, IsSome};
+ghost use Rattle.std.specs.Option.{MatchOption};
 ghost use Rattle.paper.specs.Sizes.{most_weight};
 ghost use Rattle.paper.specs.Clauses.{Clause};
 ghost use Rattle.paper.specs.Reasons.{reason_number, refusal_number};
 ghost use Rattle.paper.specs.Texts.{between, clause_refusal, read_on, open_record, read_text, fault_answer, text_answer, text_room};
 ghost use Rattle.values.specs.Lent.{bytes, KeptValues};
 ghost use Rattle.words.specs.Words.{words_at};
-ghost use Rattle.wcnf.specs.Rooms.{Keeps};
 ghost use Rattle.wcnf.specs.Steps.{OneClause, Came};
 
 use paper::{Header, MOST_VARIABLES, MOST_WEIGHT, Reason, TextAnswer};
+use std::ops::Range;
 use values::ValueRoomsMut;
 
 const MOST_TEXT: usize = 16384;
@@ -51,61 +52,52 @@ fn bad_weight(top: u32, weight: u32) -> bool
     weight != top && (weight == 0 || MOST_WEIGHT < weight)
 }
 
-// 15 to 18 for a clause that is complete. Literals that the room has no place for are only counted: they are too many.
+// 15 to 18 for a clause that is complete. None stands for more literals than the room has a place for: they are too many.
 fn clause_refusal(
     header: Header,
     weight: u32,
-    literals: &[i32],
-    count: usize,
+    literals: Option<&[i32]>,
     values: &mut ValueRoomsMut,
 ) -> Result<(), Reason>
     ensures kept { KeptValues values.old values.new }
-    ensures within { IsOk result → count ≤ length literals.now }
-    ensures answer { (size : ℕ) (c : Clause) → length literals.now ≡ 64 → Keeps literals.now count c
+    ensures within { IsOk result → IsSome literals.entry }
+    ensures answer { (size : ℕ) (c : Clause) → MatchOption literals.entry (64 < length c) (λ kept. kept.now ≡ c)
         → bytes values.old ≡ replicate size 0 → header.variables < size
         → refusal_number result ≡ clause_refusal header weight c }
 {
     if bad_weight(header.top, weight) {
         return Err(Reason::WrongWeight);
     }
-    if literals.len() < count {
-        return Err(Reason::TooManyLiterals);
-    }
-    marks::problem_refusal(64, header.variables, &literals[..count], values)
+    let kept = literals.ok_or(Reason::TooManyLiterals)?;
+    marks::problem_refusal(64, header.variables, kept, values)
 }
 
-// One clause, whose weight stands from `start` to `end`. Its literals are kept until its 0 tells that it is complete.
+// One clause, whose weight is a word of the text. Its literals are kept until its 0 tells that it is complete.
 fn read_clause(
     text: &[u8],
-    start: usize,
-    end: usize,
+    word: Range<usize>,
     header: Header,
-    literals: &mut [i32],
+    literals: &mut [i32; 64],
     values: &mut ValueRoomsMut,
     out: &mut [u8],
     at: usize,
 ) -> Result<Step, Fault>
-    requires start_lt_end { (start < end) × (end ≤ length text.now) × (length literals.old ≡ 64) }
+    requires word { (word.start < word.end) × (word.end ≤ length text.now) }
     requires high_value { (bytes values.old ≡ replicate 2002 0) × (header.variables < 2002) }
     ensures kept { KeptValues values.old values.new }
-    ensures literals { length literals.new ≡ length literals.old }
-    ensures one_clause { OneClause text.now header start end out.old at result out.new }
+    ensures one_clause { OneClause text.now header word.start word.end out.old at result out.new }
 {
-    let Some(weight) = numerals::read_decimal(&text[start..end], u32::MAX) else {
-        return Err(Fault {
-            reason: Reason::NoNumber,
-            position: start,
-        });
+    // Of a weight that is no number, and of a clause that is complete and refused.
+    let fault = |reason| Fault {
+        reason,
+        position: word.start,
     };
-    let read = literals::read_literals(text, end, literals)?;
-    let count = read.count;
-    if let Err(reason) = clause_refusal(header, weight, literals, count, values) {
-        return Err(Fault {
-            reason,
-            position: start,
-        });
-    }
-    let written = output::put_clause(out, at, header.top, weight, &literals[..count]);
+    let digits = &text[word.start..word.end];
+    let weight = numerals::read_decimal(digits, u32::MAX).ok_or(fault(Reason::NoNumber))?;
+    let read = literals::read_literals(text, word.end, literals)?;
+    let kept = literals.get(..read.count);
+    clause_refusal(header, weight, kept, values).map_err(fault)?;
+    let written = output::put_clause(out, at, header.top, weight, kept.unwrap_or_default());
     Ok(Step {
         next: read.next,
         written,
@@ -117,11 +109,10 @@ fn read_clauses(
     text: &[u8],
     from: usize,
     header: Header,
-    literals: &mut [i32],
+    literals: &mut [i32; 64],
     values: &mut ValueRoomsMut,
     out: &mut [u8],
 ) -> Result<usize, Fault>
-    requires literals_len { length literals.old ≡ 64 }
     requires high_value { (bytes values.old ≡ replicate 2002 0) × (header.variables < 2002) }
     ensures { Came (read_on header (length text.now) between (open_record header.variables ∷ [])
         (words_at text.now from)) out.old result out.new }
@@ -131,9 +122,7 @@ fn read_clauses(
     let mut clauses: usize = 0;
     // No `for`: where the next clause begins, the reading of this one tells.
     while let Some(found) = words::next_word(text, place) {
-        let start = found.start;
-        let end = found.end;
-        let step = read_clause(text, start, end, header, literals, values, out, written)?;
+        let step = read_clause(text, found, header, literals, values, out, written)?;
         written = step.written;
         place = step.next;
         clauses += 1;
@@ -152,18 +141,14 @@ fn read_clauses(
 fn read_records(text: &[u8], out: &mut [u8]) -> Result<usize, Fault>
     ensures { Came (read_text text.now) out.old result out.new }
 {
-    if MOST_TEXT < text.len() {
-        return Err(Fault {
-            reason: Reason::NoHeader,
-            position: 0,
-        });
-    }
-    let Some(heading) = headers::read_header(text) else {
-        return Err(Fault {
-            reason: Reason::NoHeader,
-            position: 0,
-        });
+    let no_header = Fault {
+        reason: Reason::NoHeader,
+        position: 0,
     };
+    if MOST_TEXT < text.len() {
+        return Err(no_header);
+    }
+    let heading = headers::read_header(text).ok_or(no_header)?;
     let header = heading.header;
     if header.variables == 0 || MOST_VARIABLES < header.variables {
         return Err(Fault {

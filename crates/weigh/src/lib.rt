@@ -80,51 +80,60 @@ fn weigh_wishes(
 
 // ── Counters ──
 
-// A wish variable is true where its wish is broken, output k of a root, from 0, where more than k inputs are true. That the stride is
-// not 0 is a premise here and below, and no part of `Width`: the definitions speak of every width.
-fn truth_of(width: Width, broken: &[u8], counts: &[u8], variable: u32) -> u8
-    requires { 0 < width.stride }
-    ensures { result ≡ truth_in width broken.now counts.now variable }
-{
-    if variable < FIRST_WISH {
-        return 0;
-    }
-    if variable < FIRST_COUNTER {
-        let number = (variable - FIRST_WISH) as usize;
-        return broken.get(number).copied().unwrap_or(0);
-    }
-    let past = variable - FIRST_COUNTER;
-    let counter = (past / width.stride) as usize;
-    let count = counts.get(counter).copied().unwrap_or(0);
-    u8::from(past % width.stride < u32::from(count))
+// What tells whether a variable is true: which wishes are broken, and how many inputs of each counter are true. That the stride is
+// not 0 is a fact here and no part of `Width`, since the definitions speak of every width.
+#[derive(Clone, Copy)]
+struct Found<'a> {
+    width: Width,
+    broken: &'a [u8],
+    counts: &'a [u8],
+    ghost spaced: { 0 < width.stride },
 }
 
-// The truth of each input, in its order.
-fn gather(width: Width, inputs: &[i32], broken: &[u8], counts: &[u8], truths: &mut [u8])
-    requires { (0 < width.stride) × (length inputs.now ≤ length truths.old) }
-    ensures { take (length inputs.now) truths.new
-        ≡ map (input_truth width broken.now counts.now) inputs.now }
-{
-    for (place, input) in inputs.iter().enumerate() {
-        let variable = variables::variable_of(*input);
-        truths[place] = truth_of(width, broken, counts, variable);
+impl Found<'_> {
+    // Of a wish variable, whether its wish is broken; of output k of a root, from 0, whether more than k inputs are true.
+    fn truth_of(self, variable: u32) -> u8
+        ensures { result ≡ truth_in self.entry.width self.entry.broken.now self.entry.counts.now variable }
+    {
+        if variable < FIRST_WISH {
+            return 0;
+        }
+        if variable < FIRST_COUNTER {
+            let number = (variable - FIRST_WISH) as usize;
+            return self.broken.get(number).copied().unwrap_or(0);
+        }
+        let past = variable - FIRST_COUNTER;
+        let counter = (past / self.width.stride) as usize;
+        let count = self.counts.get(counter).copied().unwrap_or(0);
+        u8::from(past % self.width.stride < u32::from(count))
     }
-}
 
-// How many inputs are true, in a byte. A counter of this opening's width has 64 at most; for more than a byte counts, the answer
-// is 0.
-fn true_count(width: Width, inputs: &[i32], broken: &[u8], counts: &[u8]) -> u8
-    requires { 0 < width.stride }
-    ensures { length inputs.now ≤ 255
-        → result ≡ true_bytes (map (input_truth width broken.now counts.now) inputs.now) }
-{
-    let size = inputs.len();
-    if MOST_INPUTS < size {
-        return 0;
+    // The truth of each input, in its order.
+    fn gather(self, inputs: &[i32], truths: &mut [u8])
+        requires { length inputs.now ≤ length truths.old }
+        ensures { take (length inputs.now) truths.new
+            ≡ map (input_truth self.entry.width self.entry.broken.now self.entry.counts.now) inputs.now }
+    {
+        for (place, input) in inputs.iter().enumerate() {
+            let variable = variables::variable_of(*input);
+            truths[place] = self.truth_of(variable);
+        }
     }
-    let mut truths: [u8; MOST_INPUTS] = [0; MOST_INPUTS];
-    gather(width, inputs, broken, counts, &mut truths);
-    truths::true_inputs(&truths[..size]) as u8
+
+    // How many inputs are true, in a byte. A counter of this opening's width has 64 at most; for more than a byte counts, the answer
+    // is 0.
+    fn true_count(self, inputs: &[i32]) -> u8
+        ensures { length inputs.now ≤ 255
+            → result ≡ true_bytes (map (input_truth self.entry.width self.entry.broken.now self.entry.counts.now) inputs.now) }
+    {
+        let size = inputs.len();
+        if MOST_INPUTS < size {
+            return 0;
+        }
+        let mut truths: [u8; MOST_INPUTS] = [0; MOST_INPUTS];
+        self.gather(inputs, &mut truths);
+        truths::true_inputs(&truths[..size]) as u8
+    }
 }
 
 // The first place of a counter's outputs. The product of two numbers of 32 bits fits into 64, whatever the width, and so does
@@ -168,7 +177,12 @@ fn weigh_counter(
         → Marked size counts.new (number + 1) (count_mark s t)
         × (result ≡ output_sum t f (counter_start width number) (length (inputs_at s number)))) }
 {
-    let true_inputs = true_count(width, counters.clause(count, number), broken, counts);
+    let found = Found {
+        width,
+        broken,
+        counts,
+    };
+    let true_inputs = found.true_count(counters.clause(count, number));
     slices::store(counts, number as usize, true_inputs);
     outputs_weight(width, outputs, number, true_inputs)
 }

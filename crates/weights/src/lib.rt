@@ -13,14 +13,15 @@ ghost use Rattle.weights.specs.Lent.{SameWeights};
 
 use paper::{FIRST_COUNTER, FIRST_WISH, Width};
 
-// The two rooms, to read: the wishes' own weights, and those of the counters' root outputs.
+// The two rooms, to read: the wishes' own weights, and those of the counters' root outputs. The width is not here: it is the session's
+// and goes also where no weights go, and a second one would want a clause that the two agree.
 #[derive(Clone, Copy)]
 pub struct WeightRooms<'a> {
     pub wishes: &'a [u32],
     pub outputs: &'a [u32],
 }
 
-// The two rooms, to write.
+// The two rooms, to write. No generic pair of rooms, for its fields would have no names: see `clauses::FamilyRoomsMut`.
 #[derive(Drop)]
 pub struct WeightRoomsMut<'a> {
     pub wishes: &'a mut [u32],

@@ -2,7 +2,7 @@
 // place; past the text's end there are no bytes. The work is in proportion to the bytes passed.
 #![tactic(auto)]
 
-ghost use Rattle.std.specs.Prelude.{◌≡◌, not, ◌+◌, ◌≤◌, length, drop};
+ghost use Rattle.std.specs.Prelude.{◌≡◌, Bool, ℕ, not, ◌+◌, ◌≤◌, length, drop};
 ghost use Rattle.std.specs.List.{position_or_len};
 ghost use Rattle.paper.specs.Texts.{blank, comment, gap, word, line, begins};
 ghost use Rattle.words.specs.Words.{starts_line, stand_at, Next};
@@ -29,23 +29,33 @@ fn rest_of(text: &[u8], at: usize) -> &[u8]
     text.get(at..).unwrap_or_default()
 }
 
-fn blanks_end(text: &[u8], at: usize) -> usize
-    ensures { result ≡ at + position_or_len (λ b. not (blank b)) (drop at text.now) }
+// The first place from `at` on whose byte `stops`, or where the bytes end.
+fn first_stop<F: Fn(u8) -> bool>(text: &[u8], at: usize, stops: F) -> usize
+    requires { F.IsAlwaysCallable stops }
+    ensures { (stop : ℕ → Bool) → ((b : ℕ) (r : Bool) → F.post stops b r → r ≡ stop b)
+        → result ≡ at + position_or_len stop (drop at text.now) }
 {
     let rest = rest_of(text, at);
     at + rest
         .iter()
-        .position(|byte| !is_blank(*byte))
+        .position(|byte| stops(*byte))
         .unwrap_or(rest.len())
+}
+
+fn blanks_end(text: &[u8], at: usize) -> usize
+    ensures { result ≡ at + position_or_len (λ b. not (blank b)) (drop at text.now) }
+{
+    first_stop(text, at, |byte| !is_blank(byte))
 }
 
 // A `c` hands over only where it is the very first byte of its line; behind blanks it starts a word like any other byte.
 #[cycle(skip_blanks_skip_comment)]
+#[tactic(auto, using(crate::proofs::Gaps::ends_over, crate::proofs::Gaps::ends_at_comment, crate::proofs::Gaps::ends_at_c, crate::proofs::Gaps::ends_at_word))]
 pub fn skip_blanks(text: &[u8], at: usize) -> usize
     ensures { result ≡ at + gap (stand_at text.now at) (drop at text.now) }
 {
     let place = blanks_end(text, at);
-    if place < text.len() && text[place] == b'c' && starts_line(text, place) {
+    if text.get(place) == Some(&b'c') && starts_line(text, place) {
         return skip_comment(text, place + 1);
     }
     place
@@ -53,6 +63,7 @@ pub fn skip_blanks(text: &[u8], at: usize) -> usize
 
 // Hands back behind the LF, as a comment may follow. The stack holds two calls for each comment, and none for a blank line.
 #[cycle(skip_blanks_skip_comment)]
+#[tactic(auto, using(crate::proofs::Gaps::comment_stays, crate::proofs::Gaps::comment_closes))]
 pub fn skip_comment(text: &[u8], at: usize) -> usize
     ensures { result ≡ at + gap comment (drop at text.now) }
 {
@@ -66,11 +77,7 @@ pub fn skip_comment(text: &[u8], at: usize) -> usize
 pub fn word_end(text: &[u8], at: usize) -> usize
     ensures { result ≡ at + length (word (drop at text.now)) }
 {
-    let rest = rest_of(text, at);
-    at + rest
-        .iter()
-        .position(|byte| is_blank(*byte))
-        .unwrap_or(rest.len())
+    first_stop(text, at, is_blank)
 }
 
 // From its first byte to behind its last, where a word is left.
@@ -88,13 +95,10 @@ pub fn next_word(text: &[u8], at: usize) -> Option<Range<usize>>
 pub fn line_end(text: &[u8], at: usize) -> usize
     ensures { result ≡ at + length (line (drop at text.now)) }
 {
-    let rest = rest_of(text, at);
-    at + rest
-        .iter()
-        .position(|byte| *byte == b'\n')
-        .unwrap_or(rest.len())
+    first_stop(text, at, |byte| byte == b'\n')
 }
 
+#[tactic(auto, using(crate::proofs::Beginnings::begins_so))]
 pub fn has_at(text: &[u8], at: usize, word: &[u8]) -> bool
     ensures { result ≡ begins word.now (drop at text.now) }
 {

@@ -1,6 +1,6 @@
 -- An opening comes as ever.
 use Rattle.std.proofs.Common.{rules, refl}
-use Rattle.records.specs.Kinds.{kind_number}
+use Rattle.paper.specs.Kinds.{kind_number}
 use Rattle.records.proofs.Answered.{open_answered}
 use Rattle.records.proofs.answer_closed.Goals as goal
 

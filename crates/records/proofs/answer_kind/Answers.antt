@@ -1,7 +1,7 @@
 -- Each way out is one law of Records and one of Answered.
 use Rattle.std.proofs.Common.{rules, refl}
 use Rattle.rooms.proofs.Outcomes.{begun}
-use Rattle.records.specs.Kinds.{kind_number}
+use Rattle.paper.specs.Kinds.{kind_number}
 use Rattle.records.proofs.Answered.{open_answered, rule_answered, wish_answered, derive_answered, core_answered, judge_answered}
 use Rattle.records.proofs.answer_kind.Goals as goal
 

@@ -10,7 +10,7 @@ returns-in_err-step c =
     let S = c.loop-found.invariant.so_far c.args.out.now
     (opened c.args.out.now (open_record c.args.header.variables) _ _ c.put_open-written.ensures) in
     let E = c.in_err-step.ensures.one_clause in
-    came_fault _ _ _ _ c.in_err-step.field-0.0 c.from_residual.ensures.1 (E.size ∙ S.stand.same_length)
+    came_fault _ c.from_residual.ensures.1 (E.size ∙ S.stand.same_length)
     (broken S c.in-Some.found.start c.in-Some.found.end _ _ c.in-Some.ensures.some.words (E.read S.done))
 
 pub loop-found-preserved : goal.loop-found-preserved
@@ -20,7 +20,6 @@ loop-found-preserved c =
     let E = c.in_ok-step.ensures in
     let T = E.one_clause.read in
     record {
-      room = E.literals ∙ i.room;
       kept = search (rules, E.kept, i.kept);
       within = omega (arith, W.onward, W.long, T.onward, i.within);
       so_far = λ room P. more (i.so_far room P) _ _ _ _ W.words T;

@@ -1,5 +1,5 @@
 -- What is taken so far leads on as the whole does, and each clause ends further on in the text.
-use Rattle.std.proofs.Common.{◌≡◌, [], ◌∷◌, List, ℕ, ◌-◌, ◌≤◌, length}
+use Rattle.std.proofs.Common.{[], ◌∷◌, List, ℕ, ◌-◌, ◌≤◌, length}
 use Rattle.paper.specs.Texts.{open_record, all_bytes}
 use Rattle.values.specs.Lent.{KeptValues}
 use Rattle.output.specs.Puts.{Puts}
@@ -8,7 +8,6 @@ use Rattle.wcnf.proofs.read_clauses.Given as goal
 
 abbrev pub invariant-loop-found : goal.invariant-loop-found
 invariant-loop-found l = record {
-  room : length l.literals ≡ length l.initial.literals;
   kept : KeptValues l.initial.values l.values;
   within : l.clauses ≤ l.place;
   so_far : (room : List ℕ) → Puts room (all_bytes (open_record l.header.variables ∷ [])) l.initial.written l.initial.out

@@ -2,8 +2,8 @@
 use Rattle.std.specs.Prelude.{◌≡◌, ◌<◌, ◌⊎◌, ℕ, Result, Ok, Err}
 use Rattle.paper.specs.declared.Reason.{Reason}
 use Rattle.paper.specs.declared.Reason.TheVariants.{UnknownKind}
-use Rattle.records.specs.declared.kind.Kind.{Kind}
-use Rattle.records.specs.declared.kind.Kind.TheVariants.{Open, Rule, Wish, Derive, Core, Judge}
+use Rattle.paper.specs.declared.kind.Kind.{Kind}
+use Rattle.paper.specs.declared.kind.Kind.TheVariants.{Open, Rule, Wish, Derive, Core, Judge}
 
 abbrev pub kind_number : Kind → ℕ
 kind_number Open = 1

@@ -2,7 +2,7 @@
 use Rattle.std.proofs.Common.{arith}
 use Rattle.std.proofs.lemmas.Grind.{common_steps}
 use Rattle.weigh.proofs.Counters.{few_true}
-use Rattle.weigh.proofs.true_count.Goals as goal
+use Rattle.weigh.proofs.Found.true_count.Goals as goal
 
 pub overflow_cast-result : goal.overflow_cast-result
 overflow_cast-result c = grind (arith, common_steps, few_true)

@@ -1,7 +1,8 @@
 // The kinds of records. A number past them is refused as 11.
-ghost use Rattle.records.specs.Kinds.{Decodes};
+ghost use Rattle.std.specs.Prelude.{◌≡◌};
+ghost use Rattle.paper.specs.Kinds.{kind_number, Decodes};
 
-use paper::Reason;
+use crate::Reason;
 
 // A kind, by the number that stands in a record.
 #[derive(Clone, Copy)]
@@ -12,6 +13,14 @@ pub enum Kind {
     Derive = 4,
     Core = 5,
     Judge = 6,
+}
+
+impl Kind {
+    pub fn number(self) -> u32
+        ensures { result ≡ kind_number self }
+    {
+        self as u32
+    }
 }
 
 impl TryFrom<u32> for Kind {
