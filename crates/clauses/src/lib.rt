@@ -3,7 +3,8 @@
 // family that the rooms hold.
 #![tactic(auto)]
 
-ghost use Rattle.std.specs.Prelude.{◌≡◌, List, [], ℕ, ◌+◌, ◌^◌, ◌<◌, ℤ, length, get_or};
+ghost use Rattle.std.specs.Prelude.{◌≡◌, List, [], ℕ, ◌+◌, ◌^◌, ◌≤◌, ◌<◌, ℤ, length, get_or};
+ghost use Rattle.std.proofs.Math.Seq.{paste};
 ghost use Rattle.paper.specs.Clauses.{Clause};
 ghost use Rattle.clauses.specs.Family.{Holds, start_in, Appended};
 ghost use Rattle.clauses.specs.LookUp.{look_up};
@@ -62,6 +63,17 @@ pub fn size_of(ends: &[u32], number: u32) -> usize
     end.saturating_sub(start)
 }
 
+// No `copy_from_slice`: behind a struct's reference it becomes a call of memmove, which a program that links the library for C need
+// not have.
+fn copy_in(clause: &[i32], literals: &mut [i32], start: usize)
+    requires { start + length clause.now ≤ length literals.old }
+    ensures { literals.new ≡ paste literals.old start clause.now (length clause.now) }
+{
+    for (place, &literal) in clause.iter().enumerate() {
+        literals[start + place] = literal;
+    }
+}
+
 impl FamilyRoomsMut<'_> {
     // The rooms as they are now, to read.
     pub fn view(&self) -> FamilyRooms<'_, '_>
@@ -88,7 +100,7 @@ impl FamilyRoomsMut<'_> {
         if self.literals.len() < end || 4294967295 < end {
             return false;
         }
-        self.literals[start..end].copy_from_slice(clause);
+        copy_in(clause, self.literals, start);
         self.ends[number] = end as u32;
         true
     }

@@ -10,7 +10,7 @@ use lib.IntN.{ℤ, pos, negsuc}
 use lib.ListN.{length, get_or, length-append, length-map}
 use borrow.Author.Tests.{lt-ltb, le-ltb, lt-leb, le-leb}
 use Rattle.std.specs.Prelude.{Option, Some, None}
-use Rattle.paper.specs.Sizes.{narrow, derived_room, first_counter, counter_start}
+use Rattle.paper.specs.Sizes.{derived_room, first_counter, counter_start}
 use Rattle.paper.specs.declared.Width.{Width}
 use Rattle.paper.specs.declared.Tally.{Tally}
 use Rattle.paper.specs.declared.Answer.TheVariants.{Core, Refused}
@@ -86,6 +86,20 @@ inputs_snoc : (cs : List Counter) (x : Counter) → map inputs_of (cs ++ (x ∷ 
 inputs_snoc [] x = refl
 inputs_snoc (y ∷ cs) x = ap (λ l. inputs_of y ∷ l) (inputs_snoc cs x)
 
+-- ── What the code reads ──
+
+module _ (s : Session) (t : Tally) (eq : t ≡ tally_of s) (d : ℕ) where
+  pub clause_is : (literals : List ℤ) (ends : List ℕ) → HeldDerived literals ends s → (c : Clause)
+      → ((size most : ℕ) (family : List Clause) → Holds size most literals ends t.derived family → c ≡ get_or family d [])
+      → c ≡ get_or s.work.derived d []
+  clause_is literals ends H c f = f derived_room.literals derived_room.clauses s.work.derived (rw eq H)
+
+  pub least_is : (u : Width) → u ≡ s.sheet.width → Reached s → (left outputs : List ℕ) → HeldWeights left outputs s → (c : Clause)
+      (found : Option ℕ) → ((f : ℕ → ℕ) → Spaced u → Weighs u left outputs f → Elsewhere u f → found ≡ least_member f c)
+      → found ≡ least_member (remaining s.sheet s.work) c
+  least_is u same r left outputs G c found f =
+      f (remaining s.sheet s.work) (rw same (spaced s r)) (rw same G) (rw same (elsewhere s r))
+
 -- ── A core, as the code reads it ──
 
 module _ (s : Session) (t : Tally) (eq : t ≡ tally_of s) (d : ℕ) where
@@ -115,21 +129,9 @@ module _ (s : Session) (t : Tally) (eq : t ≡ tally_of s) (d : ℕ) where
       counters_are : t.counters ≡ length s.work.counters
       counters_are = ap (λ (x : Tally). x.counters) eq
 
-      -- `c` is the clause that the code read, and `found` the least weight that it found, at the width u.
-      module _ (there : d < t.derived) (reached : Reached s) (literals : List ℤ) (derived_ends : List ℕ) (D : HeldDerived literals derived_ends s)
-          (c : Clause) (reads : (size most : ℕ) (family : List Clause) → Holds size most literals derived_ends t.derived family → c ≡ get_or family d [])
-          (u : Width) (narrow-is : u ≡ narrow)
-          (found : Option ℕ) (finds : (f : ℕ → ℕ) → Spaced u → Weighs u left outputs f → Elsewhere u f → found ≡ least_member f c) where
-        is : c ≡ get_or s.work.derived d []
-        is = reads derived_room.literals derived_room.clauses s.work.derived (rw eq D)
-
-        width_is : u ≡ s.sheet.width
-        width_is = narrow-is ∙ sym (reached_narrow s reached)
-
-        e : found ≡ least_member (remaining s.sheet s.work) c
-        e =
-            finds (remaining s.sheet s.work) (rw width_is (spaced s reached)) (rw width_is G) (rw width_is (elsewhere s reached))
-
+      -- `c` is the clause that the code read, and `found` the least weight that it found.
+      module _ (there : d < t.derived) (reached : Reached s) (c : Clause) (is : c ≡ get_or s.work.derived d []) (found : Option ℕ)
+          (e : found ≡ least_member (remaining s.sheet s.work) c) where
         found_there : leb (length s.work.derived) d ≡ false
         found_there = let q = derived_is in lt-leb (length s.work.derived) d (omega arith)
 
@@ -156,9 +158,8 @@ module _ (s : Session) (t : Tally) (eq : t ≡ tally_of s) (d : ℕ) where
           length_is : length (members s.work d) ≡ length c
           length_is = length-map (get_or s.work.derived d []) variable ∙ ap length (sym is)
 
-          pub core_crowded : 2 ≤ length c → u.counters ≤ t.counters → Left 23
+          pub core_crowded : 2 ≤ length c → s.sheet.width.counters ≤ t.counters → Left 23
           core_crowded two past =
-              let h = rw width_is at past in
               let q = counters_are in
               let l = length_is in
               left_all 23 (full_refuses s t eq (core d) table crowded refl plain begins 0 passes refl
@@ -193,7 +194,7 @@ module _ (s : Session) (t : Tally) (eq : t ≡ tally_of s) (d : ℕ) where
           outcome_is r a counters n = rw (bound_is, weight_is, n, eq) r.out
 
           pub core_single : length c < 2 → (left' outputs' : List ℕ)
-              → ((f : ℕ → ℕ) → Spaced u → Weighs u left outputs f → Weighs u left' outputs' (lost f w (map variable c)))
+              → ((f : ℕ → ℕ) → Spaced s.sheet.width → Weighs s.sheet.width left outputs f → Weighs s.sheet.width left' outputs' (lost f w (map variable c)))
               → (t.bound + w < 2 ^ 32) × Relaxed t.counters × HeldCounters inputs ends (next s (core d)) × HeldWeights left' outputs' (next s (core d))
           core_single one left' outputs' lowers =
               let l = length_is in
@@ -218,15 +219,12 @@ module _ (s : Session) (t : Tally) (eq : t ≡ tally_of s) (d : ℕ) where
                 bound_fits a,
                 outcome_is r a t.counters (rw none q),
                 rw (r.effects, none) H,
-                rw (r.effects, after) (rw (is, weight_is) at ((rw width_is at lowers) f (spaced s reached) G)),
+                rw (r.effects, after) (rw (is, weight_is) at (lowers f (spaced s reached) G)),
               )
 
-          module _ (two : 2 ≤ length c) (below : t.counters < u.counters) where
-            few : t.counters < s.sheet.width.counters
-            few = rw width_is at below
-
+          module _ (two : 2 ≤ length c) (few : t.counters < s.sheet.width.counters) where
             free : crowded ≡ false
-            free = let q = counters_are in let k = few in rw (lt-leb s.sheet.width.counters (length s.work.counters) (omega arith)) (and-false (ltb 1 (length (members s.work d))))
+            free = let q = counters_are in rw (lt-leb s.sheet.width.counters (length s.work.counters) (omega arith)) (and-false (ltb 1 (length (members s.work d))))
 
             accept : accepted s (core d) ≡ true
             accept = core_takes s d (record {
@@ -254,16 +252,15 @@ module _ (s : Session) (t : Tally) (eq : t ≡ tally_of s) (d : ℕ) where
                   go true f = f
                   go false f =
                       let q = counters_are in
-                      let k = few in
                       let was = was_full (counter_room s.sheet.width) small inputs ends (map inputs_of s.work.counters) H t.counters count_is c x inputs' ends' ap' f in
                       let no = roomy s reached c short (omega arith) in
                       absurd (true≢false (sym was ∙ no))
 
               pub core_several : (left' outputs' outputs'' : List ℕ)
-                  → ((f : ℕ → ℕ) → Spaced u → Weighs u left outputs f → Weighs u left' outputs' (lost f w (map variable c)))
-                  → ((f : ℕ → ℕ) → Spaced u → Weighs u left' outputs' f → length c ≤ u.literals
-                  → ((i : ℕ) → 0 < i → i < length c → f (counter_start u t.counters + i) ≡ 0)
-                  → Weighs u left' outputs'' (gained f w (upper_outputs (counter_start u t.counters) (length c))))
+                  → ((f : ℕ → ℕ) → Spaced s.sheet.width → Weighs s.sheet.width left outputs f → Weighs s.sheet.width left' outputs' (lost f w (map variable c)))
+                  → ((f : ℕ → ℕ) → Spaced s.sheet.width → Weighs s.sheet.width left' outputs' f → length c ≤ s.sheet.width.literals
+                  → ((i : ℕ) → 0 < i → i < length c → f (counter_start s.sheet.width t.counters + i) ≡ 0)
+                  → Weighs s.sheet.width left' outputs'' (gained f w (upper_outputs (counter_start s.sheet.width t.counters) (length c))))
                   → (t.bound + w < 2 ^ 32) × Relaxed (t.counters + 1) × HeldCounters inputs' ends' (next s (core d)) × HeldWeights left' outputs'' (next s (core d))
               core_several left' outputs' outputs'' lowers raises =
                   let l = length_is in
@@ -279,7 +276,7 @@ module _ (s : Session) (t : Tally) (eq : t ≡ tally_of s) (d : ℕ) where
                   let same : inputs_of (record { inputs = members s.work d; weight = core_weight s.sheet s.work d }) ≡ c
                   = positive_literals (get_or s.work.derived d []) members-positive ∙ sym is in
                   let more = more_held (counter_room s.sheet.width) small inputs ends (map inputs_of s.work.counters) H t.counters count_is c x inputs' ends' ap' appended in
-                  let outs = (rw width_is at raises) (lost f w (map variable c)) (spaced s reached) ((rw width_is at lowers) f (spaced s reached) G) short
+                  let outs = raises (lost f w (map variable c)) (spaced s reached) (lowers f (spaced s reached) G) short
                   (λ i h k. let z = output_free s reached i in rw q (omega arith)) in (
                     bound_fits accept,
                     outcome_is r accept (t.counters + 1) (rw (made, length-append s.work.counters (new ∷ []), q)),

@@ -2,7 +2,7 @@
 use mathlib.Core.Path.{◌≡◌, refl, ap, ◌∙◌}
 use mathlib.Core.List.{[], ◌∷◌, map}
 use Prim.Native.Nat.{ℕ, zero, suc, ◌+◌, ◌-◌, ◌/◌, ◌%◌, ◌<◌, ◌≤◌}
-use native.Mathlib.Nat.{div-lt_iff_lt-mul, mod-lt}
+use native.Mathlib.Nat.{div-lt_iff_lt-mul, mod-lt, mul-le-mul}
 use native.Mathlib.Numerals.{add-one}
 use native.Mathlib.Omega.{arith}
 use lib.Dec.{ltb}
@@ -74,11 +74,14 @@ sum_run l r s t sum (suc a) zero h k = rw (output_run l s a h)
 sum_run l r s t sum (suc a) (suc b) h k = rw (output_run l s a h, output_run r t b k)
 
 -- The counts of left and right outputs that a node's clause names.
-within : (p q i : ℕ) → i < own_clauses p q → ((i + 1) / (q + 1) ≤ p) × ((i + 1) % (q + 1) ≤ q)
+pub within : (p q i : ℕ) → i < own_clauses p q → ((i + 1) / (q + 1) ≤ p) × ((i + 1) % (q + 1) ≤ q)
 within p q i h =
     let d : (i + 1) / (q + 1) < p + 1 = (div-lt_iff_lt-mul {k = q + 1} {x = i + 1} {y = p + 1} (omega arith)).1 (omega arith) in
     let m : (i + 1) % (q + 1) < q + 1 = mod-lt (i + 1) (omega arith) in
     (omega arith, omega arith)
+
+pub own_small : (p q : ℕ) → p ≤ 64 → q ≤ 64 → own_clauses p q ≤ 4224
+own_small p q h k = omega (arith, mul-le-mul h k)
 
 -- ── The clauses ──
 

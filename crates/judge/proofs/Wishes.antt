@@ -2,12 +2,12 @@
 use mathlib.Core.Path.{◌≡◌}
 use mathlib.Core.Bool.{Bool, true, false, not}
 use mathlib.Core.List.{List, [], ◌∷◌, map}
-use Prim.Native.Nat.{ℕ, ◌+◌, ◌*◌, ◌^◌, ◌<◌, ◌≤◌}
+use Prim.Native.Nat.{ℕ, ◌+◌, ◌*◌, ◌-◌, ◌^◌, ◌<◌, ◌≤◌}
 use native.Mathlib.Numerals.{add-one}
 use native.Mathlib.Omega.{arith}
 use lib.Dec.{leb}
 use lib.IntN.{ℤ}
-use lib.ListN.{length, drop, get_or, length-map, get_or-append, get_or-map}
+use lib.ListN.{length, drop, get_or, replicate, length-map, length-append, get_or-append, get_or-map}
 use lib.Seq.{drop-cons}
 use borrow.Author.Tests.{leb-true}
 use Rattle.paper.specs.Sizes.{wish_room, most_weight}
@@ -31,6 +31,15 @@ module _ {s : Session} {literals : List ℤ} {ends weights : List ℕ} {count : 
     (counts : count ≡ length s.sheet.wishes) (H : HeldWishes literals ends weights s) where
   pub held : Holds wish_room.literals wish_room.clauses literals ends count (literals_of s.sheet.wishes)
   held = rw (counts, ← length-map s.sheet.wishes (λ (x : Wish). x.literals)) H.clauses
+
+  pub enough : count ≤ length weights
+  unfolding weights_room
+  enough =
+      rw H.weights_are (omega (
+        arith,
+        length-append (weights_of s.sheet.wishes) (replicate (wish_room.clauses - length s.sheet.wishes) 0),
+        length-map s.sheet.wishes (λ (x : Wish). x.weight),
+      ))
 
   weight_at_lem : (i : ℕ) → i < count → get_or weights i 0 ≡ (get_or s.sheet.wishes i no_wish).weight
   unfolding weights_room

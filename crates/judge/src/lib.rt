@@ -57,7 +57,8 @@ fn broken_rule(arrangement: &[u8], rules: FamilyRooms, count: u32) -> Option<u32
     None
 }
 
-// The summed weight of the wishes that are broken. In 64 bits no sum over a count of 32 bits wraps, whatever the rooms hold.
+// The summed weight of the wishes that are broken. In 64 bits no sum over a count of 32 bits wraps, whatever the rooms hold; and past
+// the room of weights none is looked at, whatever the tally counts.
 fn cost_of(arrangement: &[u8], wishes: FamilyRooms, weights: &[u32], count: u32) -> u64
     ensures { (s : Session) → count ≡ length s.sheet.wishes
         → HeldWishes wishes.entry.literals.now wishes.entry.ends.now weights.now s
@@ -65,9 +66,11 @@ fn cost_of(arrangement: &[u8], wishes: FamilyRooms, weights: &[u32], count: u32)
 {
     let mut sum: u64 = 0;
     for number in 0..count {
+        let Some(weight) = weights.get(number as usize) else {
+            return sum;
+        };
         if !clause_holds(arrangement, wishes.clause(count, number)) {
-            let weight = weights.get(number as usize).copied().unwrap_or(0);
-            sum += u64::from(weight);
+            sum += u64::from(*weight);
         }
     }
     sum

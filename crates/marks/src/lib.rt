@@ -91,7 +91,7 @@ pub fn distinct(clause: &[i32], values: &mut ValueRoomsMut) -> bool
 }
 
 // The lowest of the three refusals that applies to a clause, if one does. Whether each literal names something is told: there is more
-// than one test for that.
+// than one test for that. Of a clause that is too long it need not be known, so that nobody has to go through it.
 pub fn clause_refusal(
     most: usize,
     all_named: bool,
@@ -100,7 +100,8 @@ pub fn clause_refusal(
 ) -> Result<(), Reason>
     ensures kept { KeptValues values.old values.new }
     ensures answer { (size : ℕ) (u : Width) (named : ℤ → Bool) → bytes values.old ≡ replicate size 0
-        → ((l : ℤ) → named l ≡ true → variable l < size) → u.literals ≡ most → all_named ≡ every named clause.now
+        → ((l : ℤ) → named l ≡ true → variable l < size) → u.literals ≡ most
+        → (length clause.now ≤ most → all_named ≡ every named clause.now)
         → refusal_number result ≡ lowest (admission u named clause.now) }
 {
     if most < clause.len() {
@@ -127,6 +128,6 @@ pub fn problem_refusal(
         → u.literals ≡ most
         → refusal_number result ≡ lowest (admission u (problem_literal variables) clause.now) }
 {
-    let all_named = variables::all_problem(variables, clause);
+    let all_named = clause.len() <= most && variables::all_problem(variables, clause);
     clause_refusal(most, all_named, clause, values)
 }

@@ -120,8 +120,9 @@ impl Known<'_> {
             → Zeros s.sheet.width (bytes values.old)
             → refusal_number result ≡ lowest (admission s.sheet.width (named_literal s.sheet s.work) clause.now) }
     {
-        let all_named = self.all_named(clause);
-        marks::clause_refusal(self.width.literals as usize, all_named, clause, values)
+        let most = self.width.literals as usize;
+        let all_named = clause.len() <= most && self.all_named(clause);
+        marks::clause_refusal(most, all_named, clause, values)
     }
 
     fn hint_named(self, hint: Hint) -> bool

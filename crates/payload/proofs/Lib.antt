@@ -1,2 +1,3 @@
 -- Laws that the proofs of the functions cite.
+pub mod Numbers
 pub mod Filling

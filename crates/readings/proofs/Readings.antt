@@ -23,11 +23,17 @@ use Rattle.values.proofs.Values.{literal_represents}
 
 -- ── Two parts of a clause ──
 
-both_none : (a : Reading) → both a AllFalse ≡ a
+pub both_none : (a : Reading) → both a AllFalse ≡ a
 both_none AllFalse = refl
 both_none (Forces l) = refl
 both_none AlreadyTrue = refl
 both_none StillOpen = refl
+
+pub both_true : (a : Reading) → both a AlreadyTrue ≡ AlreadyTrue
+both_true AllFalse = refl
+both_true (Forces l) = refl
+both_true AlreadyTrue = refl
+both_true StillOpen = refl
 
 pub both_assoc : (a b c : Reading) → both (both a b) c ≡ both a (both b c)
 both_assoc AllFalse b c = refl

@@ -8,6 +8,7 @@ use lib.ListN.{length, drop}
 use Rattle.paper.specs.declared.Tally.{Tally}
 use Rattle.paper.specs.declared.Outcome.{Outcome}
 use Rattle.paper.specs.declared.Answer.{Answer}
+use Rattle.paper.specs.declared.Answer.TheVariants.{Refused}
 use Rattle.paper.specs.Clauses.{Clause, Truth, pick}
 use Rattle.paper.specs.Session.{Session, Hint, tally_of}
 use Rattle.paper.specs.Truth.{arranged}
@@ -18,6 +19,7 @@ use Rattle.paper.specs.Records.{Record, first, literals, hints, hints_at, step, 
 use Rattle.paper.proofs.Reach.{next_reached}
 use Rattle.rooms.specs.Held.{Rooms, Held, HeldRules, HeldWishes, HeldDerived, HeldCounters, HeldWeights, with_rules, with_wishes, with_derived, with_counters}
 use Rattle.rooms.specs.Kept.{Kept}
+use Rattle.records.proofs.Records.{Refuses}
 use Rattle.rooms.proofs.Whole.{next_keeps, opening_held, rule_held, wish_held, derive_held, core_held}
 
 -- ── The session after a record is the session before it, or the one after its step ──
@@ -104,6 +106,10 @@ module _ (t : Tally) (rooms : Rooms) (low high : List ℕ) (s : Session) (k : Ke
       zeros = rw (ap₂ ◌++◌ same.0 same.1) k.zeros;
     },
   )
+
+  pub refuses_answered : (number : ℕ) → Refuses s (of_kind kind) t number → o ≡ record { tally = t; answer = Refused number }
+      → Answered kind rooms
+  refuses_answered number l e = answered kind refl rooms (e ∙ l.out) (subst (Held rooms) l.same k.held)
 
   pub open_answered : kind ≡ 1 → o ≡ record_outcome s (of_kind 1) → Answered kind rooms
   open_answered is e =

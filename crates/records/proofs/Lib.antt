@@ -1,4 +1,5 @@
--- What a record comes to: its step, a step with more literals or hints than it takes, each kind, and what a caller keeps.
+-- What a record comes to: the refusals before its step, a step with more literals or hints than it takes, each kind, and what a
+-- caller keeps.
 pub mod Records
 pub mod Long
 pub mod ByKind

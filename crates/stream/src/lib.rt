@@ -69,7 +69,22 @@ pub fn run<R: Read, W: Print>(source: &mut R, sink: &W, limit: u64) -> Finish
         × Consumes (R.remaining source.old) (R.remaining source.new) read
         × (length read + result.unread ≡ limit) }
 {
-    let mut rooms = Rooms::fresh();
+    // Made where they stand: Rattle's own compiler would keep what `Rooms::fresh` hands back beside a copy of it.
+    let mut rooms = Rooms {
+        rules: [0; 16384],
+        rule_ends: [0; 2048],
+        wishes: [0; 8192],
+        wish_ends: [0; 512],
+        wish_weights: [0; 512],
+        derived: [0; 16384],
+        derived_ends: [0; 4096],
+        inputs: [0; 8192],
+        counter_ends: [0; 128],
+        left: [0; 512],
+        outputs: [0; 8192],
+        low: [0; 4001],
+        high: [0; 65536],
+    };
     let mut lent = RoomsMut {
         rules: &mut rooms.rules,
         rule_ends: &mut rooms.rule_ends,

@@ -62,13 +62,14 @@ fn answer_next<R: Read, W: Print>(
     texts: &mut [u8],
     rooms: &mut [u8],
 ) -> bool {
-    let mut room = [0u8; 4];
-    let mut length = [0u8; 4];
-    if buffers::read_full(source, &mut room) < 4 || buffers::read_full(source, &mut length) < 4 {
+    // Both lengths in one read: a source that keeps its messages apart may give them as one.
+    let mut head = [0u8; 8];
+    if buffers::read_full(source, &mut head) < 8 {
         return false;
     }
-    let room = u32::from_le_bytes(room) as usize;
-    let length = u32::from_le_bytes(length) as usize;
+    let lengths = u64::from_le_bytes(head);
+    let room = (lengths % 4294967296) as usize;
+    let length = (lengths / 4294967296) as usize;
     if rooms.len() < room || texts.len() < length {
         return false;
     }

@@ -39,6 +39,12 @@ abbrev bad_weight : Header → ℕ → Bool
 bad_weight h weight = not (eqb weight h.top) && not (leb 1 weight && leb weight most_weight)
 
 module _ (h : Header) (weight : ℕ) (c : Clause) where
+  pub heavy : bad_weight h weight ≡ true → 15 ≡ clause_refusal h weight c
+  heavy e = rw e
+
+  pub long : bad_weight h weight ≡ false → 64 < length c → 16 ≡ clause_refusal h weight c
+  long e more = rw (e, lt-ltb 64 (length c) more)
+
   pub admitted : (r : ℕ) → bad_weight h weight ≡ false → r ≡ lowest (admission narrow (problem_literal h.variables) c)
       → r ≡ clause_refusal h weight c
   admitted r e found = rw e found
@@ -69,6 +75,10 @@ module _ (h : Header) (at weight : ℕ) (c : Clause) (rest : Result) where
 -- The bytes of the weight's word.
 abbrev weight_word : List ℕ → ℕ → ℕ → List ℕ
 weight_word text start end = take (end - start) (drop start text)
+
+pub no_weight : (text : List ℕ) (h : Header) (start end : ℕ) → decimal_up_to most_number (weight_word text start end) ≡ false
+    → (done : List Record) → read_on h (length text) between done (clause_from text start end) ≡ fault 31 start
+no_weight text h start end e done = rw e
 
 -- The weight's word reads as a number.
 module _ (text : List ℕ) (h : Header) (start end weight : ℕ) (reads : Some weight ≡ numeral_of most_number (weight_word text start end)) where

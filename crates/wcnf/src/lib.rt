@@ -13,8 +13,8 @@ ghost use Rattle.words.specs.Words.{words_at};
 ghost use Rattle.wcnf.specs.Steps.{OneClause, Came};
 
 use paper::{Header, MOST_VARIABLES, MOST_WEIGHT, Reason, TextAnswer};
-use std::ops::Range;
 use values::ValueRoomsMut;
+use words::Found;
 
 const MOST_TEXT: usize = 16384;
 
@@ -75,7 +75,7 @@ fn clause_refusal(
 // One clause, whose weight is a word of the text. Its literals are kept until its 0 tells that it is complete.
 fn read_clause(
     text: &[u8],
-    word: Range<usize>,
+    word: Found,
     header: Header,
     literals: &mut [i32; 64],
     values: &mut ValueRoomsMut,

@@ -7,8 +7,8 @@ use native.Mathlib.Numerals.{add-one}
 use native.Mathlib.Omega.{arith}
 use lib.Dec.{ltb}
 use lib.IntN.{ℤ, pos}
-use lib.ListN.{length, get_or, take}
-use lib.Seq.{take-suc}
+use lib.ListN.{length, get_or, take, length-map}
+use lib.Seq.{take-suc, length-take-le}
 use borrow.Author.Tests.{lt-ltb, ltb-true, ne_eqb}
 use Rattle.std.specs.Prelude.{Option, Some, None}
 use Rattle.std.proofs.lemmas.Option.{none-some}
@@ -51,6 +51,24 @@ least_from_more : (f : ℕ → ℕ) (x : ℕ) (xs : List ℕ) (y : ℕ) → leas
 least_from_more f x [] y = refl
 least_from_more f x (z ∷ xs) y = let e = least_from_more f z xs y in omega arith
 
+-- Of numbers: the first weight is the least so far; after that the lesser of two is.
+numbers_more : (f : ℕ → ℕ) (xs : List ℕ) (y : ℕ)
+    → (length xs ≡ 0 → least f (xs ++ (y ∷ [])) ≡ f y) × (0 < length xs → least f (xs ++ (y ∷ [])) ≡ min (least f xs) (f y))
+numbers_more f [] y = (λ h. refl, λ h. absurd (omega arith))
+numbers_more f (x ∷ xs) y = (λ h. absurd (omega arith), λ h. least_from_more f x xs y)
+
+module _ (f : ℕ → ℕ) (c : Clause) (i : ℕ) (h : i < length c) where
+  count : length (map variable (take i c)) ≡ i
+  count = length-map (take i c) variable ∙ length-take-le i c (omega arith)
+
+  pub first_least : i ≡ 0 → least f (map variable (take (i + 1) c)) ≡ f (variable (get_or c i (pos 0)))
+  first_least e = rw (members_more c i h) ((numbers_more f (map variable (take i c)) (variable (get_or c i (pos 0)))).0 (count ∙ e))
+
+  pub later_least : 0 < i
+      → least f (map variable (take (i + 1) c)) ≡ min (least f (map variable (take i c))) (f (variable (get_or c i (pos 0))))
+  later_least e =
+      rw (members_more c i h) ((numbers_more f (map variable (take i c)) (variable (get_or c i (pos 0)))).1 (omega (arith, count)))
+
 least_of_members : (f : ℕ → ℕ) (c : Clause) → 0 < length c → every (is_member f) c ≡ true
     → least_member f c ≡ Some (least f (map variable c))
 least_of_members f c h e = rw (lt-ltb 0 (length c) h, e)
@@ -84,6 +102,25 @@ none_least f c i h e = go (ltb 0 (length c)) (every (is_member f) c) refl
     go true true q = absurd (false≢true (sym (no_weight f (get_or c i (pos 0)) e) ∙ every-at (is_member f) (pos 0) c q i h))
     go true false q = refl
     go false b q = refl
+
+least_from_some : (f : ℕ → ℕ) (l : ℤ) (c : Clause) → every (is_member f) (l ∷ c) ≡ true
+    → 0 < least_from f (variable l) (map variable c)
+least_from_some f l [] e = member_some f l (and_split (is_member f l) true e).0
+least_from_some f l (k ∷ c) e =
+    let s = and_split (is_member f l) (every (is_member f) (k ∷ c)) e in
+    omega (arith, member_some f l s.0, least_from_some f k c s.1)
+
+-- Members have a least weight that is not 0.
+pub some_least : (f : ℕ → ℕ) (c : Clause) (w : ℕ) → least_member f c ≡ Some w → 0 < w
+some_least f [] w e = absurd (none-some w e)
+some_least f (l ∷ c) w e = go (ltb 0 (length (l ∷ c)) && every (is_member f) (l ∷ c)) refl e
+  where
+    go : (b : Bool) → (ltb 0 (length (l ∷ c)) && every (is_member f) (l ∷ c)) ≡ b
+        → pick b (Some (least f (map variable (l ∷ c)))) None ≡ Some w → 0 < w
+    go true k q =
+        let same : w ≡ least f (map variable (l ∷ c)) = cc in
+        rw same (least_from_some f l c (and_split (ltb 0 (length (l ∷ c))) (every (is_member f) (l ∷ c)) k).1)
+    go false k q = absurd (none-some w q)
 
 -- A variable without weight is no member, so nothing is spread to it.
 pub spread_none : (f : ℕ → ℕ) (w v : ℕ) (c : Clause) → every (is_member f) c ≡ true → f v ≡ 0 → spread w (map variable c) v ≡ 0

@@ -1,8 +1,8 @@
 -- The words of a text from a place on, and what the search for the next of them finds.
 use Rattle.std.specs.Prelude.{◌≡◌, Bool, true, List, [], ◌∷◌, ℕ, zero, suc, ◌+◌, ◌-◌, ◌≤◌, ◌<◌, eqb, length, take, drop, get_or, Option, None, Some}
-use Rattle.std.specs.declared.ops.Range.{Range}
 use Rattle.paper.specs.Clauses.{pick}
 use Rattle.paper.specs.Texts.{Stand, first, behind, gap, word, Word, words}
+use Rattle.words.specs.declared.Found.{Found}
 
 -- A line starts at the text's start and behind an LF.
 unfoldable pub starts_line : List ℕ → ℕ → Bool
@@ -39,6 +39,6 @@ pub record NextWord (text : List ℕ) (at start end : ℕ) : Type 0 where
   pub ends : end ≡ start + length (word (drop start text))
   pub some : Stands text at start end
 
-abbrev pub Next : List ℕ → ℕ → Option (Range ℕ) → Type 0
+abbrev pub Next : List ℕ → ℕ → Option Found → Type 0
 Next text at None = NoWord text at
 Next text at (Some found) = NextWord text at found.start found.end

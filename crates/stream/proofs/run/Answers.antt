@@ -1,5 +1,5 @@
 -- Each turn reads on where the one before stopped.
-use Rattle.std.proofs.Common.{◌++◌, [], arith, ap, length-append, sym, subst, rules}
+use Rattle.std.proofs.Common.{◌++◌, [], arith, ap, length-append, refl, sym, subst, rules}
 use Rattle.std.proofs.KnownBytes.{Consumes-nil, Consumes-trans}
 use Rattle.paper.specs.Session.{fresh}
 use Rattle.rooms.proofs.Kept.{fresh_kept}
@@ -15,7 +15,7 @@ loop-turn-init g c =
       came = ([], Consumes-nil _, omega (arith, ap (λ (x : State). x.unread) told));
       within = subst (λ (x : State). Within x _) (sym told) (record { up = omega arith; fits = omega arith });
       same = search rules;
-      standing = record { session = fresh; kept = fresh_kept _ _ (ap (λ (x : State). x.tally) told) c.fresh-rooms.ensures };
+      standing = record { session = fresh; kept = fresh_kept _ _ (ap (λ (x : State). x.tally) told) refl };
     }
 
 pub loop-turn-preserved : goal.loop-turn-preserved

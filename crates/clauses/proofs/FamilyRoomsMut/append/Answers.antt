@@ -1,6 +1,5 @@
 -- `append` meets its contract.
-use Rattle.std.proofs.Common.{arith, rules, ◌≡◌, ◌∙◌, ap, ◌+◌, ◌-◌, length}
-use Rattle.std.proofs.lemmas.Slice.{put_mid-paste}
+use Rattle.std.proofs.Common.{arith, ◌≡◌, ◌∙◌, ap}
 use Rattle.clauses.specs.Family.{start_in}
 use Rattle.clauses.proofs.Family.{many, long, uncounted, taken}
 use Rattle.clauses.proofs.FamilyRoomsMut.append.Goals.{then-self-end-via-then-self-end, then-self-end-via-else-self-end+then-end-gt4294967295}
@@ -25,5 +24,5 @@ pub returns-clause-appended : goal.returns-clause-appended
 returns-clause-appended c =
     let e : c.start_of-start.result ≡ start_in c.args.self.now.ends.now c.args.count =
     c.start_of-start.ensures.0 ∙ ap (λ ends. start_in ends c.args.count) c.view.ensures.1 in
-    rw (put_mid-paste c.start_of-start.result (c.start_of-start.result + length c.args.clause.now - c.start_of-start.result) c.args.self.now.literals.now c.copy_from_slice.new.self c.args.clause.now (length c.args.clause.now) (search rules) (omega arith) (search rules), e)
+    rw (c.copy_in.ensures, e)
     (taken c.args.self.now.literals.now c.args.self.now.ends.now c.args.count c.args.clause.now (omega arith) (omega (arith, e)))
